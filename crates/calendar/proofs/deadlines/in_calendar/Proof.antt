@@ -1,0 +1,23 @@
+use mathlib.Core.Path.{refl}
+use borrow.Author.Tests.{le-leb, lt-leb}
+use Rattle.calendar.specs.Answers.{dayIn}
+use borrow.Author.Needs.{needs}
+use Rattle.calendar.proofs.deadlines.in_calendar.Statement.{statement}
+use Rattle.calendar.proofs.deadlines.in_calendar.Tie as tie
+
+cast-if1 : tie.Need-cast-if1
+cast-if1 c = search needs
+
+cast-t4 : tie.Need-cast-t4
+cast-t4 c = search needs
+
+returns : tie.Need-returns
+unfolding dayIn
+returns c = simp (le-leb _ _ (c .if1 .taken))
+
+returns-2 : tie.Need-returns-2
+unfolding dayIn
+returns-2 c = simp (lt-leb _ _ (c .if1 .left))
+
+pub in-calendar-spec : {M : Type 1} → statement M
+in-calendar-spec = tie.close (tie.spec cast-if1 cast-t4 returns returns-2)

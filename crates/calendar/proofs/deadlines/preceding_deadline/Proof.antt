@@ -1,0 +1,65 @@
+use mathlib.Core.Path.{_≡_, refl, sym, _∙_}
+use mathlib.Core.Bool.{true, _&&_}
+use native.Mathlib.Omega.{arith}
+use borrow.Author.Tests.{not-true, not-false}
+use Rattle.calendar.specs.ThermalYears.{isThermalMonth}
+use Rattle.calendar.specs.Answers.{precedingDay}
+use Rattle.calendar.proofs.Ranges.{ThermalMonth, thermal-of-test}
+use Rattle.calendar.proofs.AnswerLaws.{preceding-day-early, preceding-day-late}
+use borrow.Author.Needs.{needs}
+use Rattle.calendar.proofs.deadlines.preceding_deadline.Statement.{statement}
+use Rattle.calendar.proofs.deadlines.preceding_deadline.Tie as tie
+
+is-thermal-month-requires : tie.Need-is-thermal-month-requires
+is-thermal-month-requires c κs = search needs
+
+returns : tie.Need-returns
+unfolding precedingDay
+returns c = rw (sym (c .before .is-thermal-month .ensures) ∙ not-true _ (c .if1 .taken))
+
+tested : (c : tie.Else1) → isThermalMonth (c .before .before .args .year) (c .before .before .args .month) ≡ true
+tested c = sym (c .before .is-thermal-month .ensures) ∙ not-false _ (c .if1 .left)
+
+limits : (c : tie.Else1) → ThermalMonth (c .before .before .args .year) (c .before .before .args .month)
+limits c = let s = c .before .before .args in thermal-of-test (s .year) (s .month) (tested c)
+
+add-nth-working-day : tie.Need-add-nth-working-day
+add-nth-working-day c = search needs
+
+nth-working-day-requires : tie.Need-nth-working-day-requires
+nth-working-day-requires c κs = search needs
+
+returns-2 : tie.Need-returns-2
+returns-2 c =
+    let e = c .before .before in
+    let s = e .before .before .args in
+    c .nth-working-day .ensures ∙ preceding-day-early (s .year) (s .month) (s .n) (tested e) (limits e) (c .before .if2 .taken)
+
+add-nth-working-day-2 : tie.Need-add-nth-working-day-2
+add-nth-working-day-2 c = omega (arith, limits (c .before) .year .to)
+
+sub-nth-working-day : tie.Need-sub-nth-working-day
+sub-nth-working-day c = search needs
+
+nth-working-day-requires-2 : tie.Need-nth-working-day-requires-2
+nth-working-day-requires-2 c κs = search needs
+
+returns-3 : tie.Need-returns-3
+returns-3 c =
+    let e = c .before .before in
+    let s = e .before .before .args in
+    c .nth-working-day2 .ensures ∙ preceding-day-late (s .year) (s .month) (s .n) (tested e) (limits e) (c .before .if2 .left)
+
+pub preceding-deadline-spec : {M : Type 1} → statement M
+preceding-deadline-spec =
+    tie.close
+    (tie.spec
+    is-thermal-month-requires
+    returns
+    add-nth-working-day
+    nth-working-day-requires
+    returns-2
+    add-nth-working-day-2
+    sub-nth-working-day
+    nth-working-day-requires-2
+    returns-3)

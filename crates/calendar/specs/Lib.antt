@@ -1,0 +1,5 @@
+pub mod Days
+pub mod ThermalYears
+pub mod WorkingDays
+pub mod Deadlines
+pub mod Answers

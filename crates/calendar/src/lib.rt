@@ -1,0 +1,29 @@
+// The calendar of the register: gas-days from 1 January 2000, day 0, to 31 December 2099, day 36,524, working days and
+// holidays, thermal years and the terms that end on a working day.
+//
+// No function that another crate can name has a `requires`. Input outside the calendar is answered with the case
+// `OutsideCalendar`. The meaning of each answer is in specs/, and proofs/ has the laws that callers cite.
+mod dates;
+mod deadlines;
+mod thermal_years;
+mod working_days;
+
+pub use dates::CalendarDate;
+pub use dates::Date;
+pub use dates::GasDay;
+pub use dates::date_of;
+pub use dates::day_of;
+pub use dates::next_date;
+pub use deadlines::Timeliness;
+pub use deadlines::in_time_own_month;
+pub use deadlines::in_time_preceding_month;
+pub use deadlines::next_first;
+pub use thermal_years::Span;
+pub use thermal_years::thermal_month;
+pub use thermal_years::thermal_year;
+pub use working_days::DayKind;
+pub use working_days::Tally;
+pub use working_days::easter;
+pub use working_days::kind_of_day;
+pub use working_days::nth_working_day;
+pub use working_days::working_days_of;
