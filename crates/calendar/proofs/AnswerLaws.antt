@@ -5,11 +5,9 @@ use mathlib.Core.Bool.{Bool, true, false, cond, _&&_}
 use mathlib.Core.Path.{_≡_, refl}
 use lib.Dec.{leb}
 use borrow.Author.Tests.{le-leb, lt-leb}
-use Rattle.calendar.specs.declared.dates.GasDay.{GasDay}
 use Rattle.calendar.specs.declared.dates.GasDay.the-variants.{Day, OutsideCalendar as no-day}
-use Rattle.calendar.specs.declared.deadlines.Timeliness.{Timeliness}
 use Rattle.calendar.specs.declared.deadlines.Timeliness.the-variants.{InTime, Late, OutsideCalendar as no-term}
-use Rattle.calendar.specs.Days.{between, isMonth, dateOf}
+use Rattle.calendar.specs.Days.{lastDay, between, isMonth, dateOf}
 use Rattle.calendar.specs.ThermalYears.{isThermalMonth}
 use Rattle.calendar.specs.Deadlines.{ownDeadline, precedingDeadline}
 use Rattle.calendar.specs.Answers.{nthAnswer, precedingDay, timely, ownAnswer, precedingAnswer}
@@ -21,24 +19,24 @@ timely-if : (b : Bool) (a d : ℕ) → timely a (cond b (Day d) no-day) ≡ cond
 timely-if true a d = refl
 timely-if false a d = refl
 
-pub own-answer : (a n : ℕ) → a ≤ 36524 → timely a (nthAnswer (dateOf a .year) (dateOf a .month) n) ≡ ownAnswer a n
+pub own-answer : (a n : ℕ) → a ≤ lastDay → timely a (nthAnswer (dateOf a .year) (dateOf a .month) n) ≡ ownAnswer a n
 unfolding nthAnswer ownAnswer ownDeadline
 own-answer a n h =
-    rw (is-month (dateOf a .year) (dateOf a .month) (own-month a h), le-leb a 36524 h)
+    rw (is-month (dateOf a .year) (dateOf a .month) (own-month a h), le-leb a lastDay h)
     (timely-if (between 1 18 n) a (ownDeadline a n))
 
-pub own-outside : (a n : ℕ) → 36524 < a → no-term ≡ ownAnswer a n
+pub own-outside : (a n : ℕ) → lastDay < a → no-term ≡ ownAnswer a n
 unfolding ownAnswer
-own-outside a n h = rw (lt-leb a 36524 h)
+own-outside a n h = rw (lt-leb a lastDay h)
 
-pub preceding-answer : (a y k n : ℕ) → a ≤ 36524 → timely a (precedingDay y k n) ≡ precedingAnswer a y k n
+pub preceding-answer : (a y k n : ℕ) → a ≤ lastDay → timely a (precedingDay y k n) ≡ precedingAnswer a y k n
 unfolding precedingDay precedingAnswer
 preceding-answer a y k n h =
-    rw (le-leb a 36524 h) (timely-if (isThermalMonth y k && between 1 18 n) a (precedingDeadline y k n))
+    rw (le-leb a lastDay h) (timely-if (isThermalMonth y k && between 1 18 n) a (precedingDeadline y k n))
 
-pub preceding-outside : (a y k n : ℕ) → 36524 < a → no-term ≡ precedingAnswer a y k n
+pub preceding-outside : (a y k n : ℕ) → lastDay < a → no-term ≡ precedingAnswer a y k n
 unfolding precedingAnswer
-preceding-outside a y k n h = rw (lt-leb a 36524 h)
+preceding-outside a y k n h = rw (lt-leb a lastDay h)
 
 -- the n-th working day of the month before month k, by that month
 pub preceding-day-early : (y k n : ℕ) → isThermalMonth y k ≡ true → ThermalMonth y k → k ≤ 4 → nthAnswer y (k + 8) n ≡ precedingDay y k n

@@ -2,12 +2,12 @@
 -- Assumes nothing.
 use Prim.Native.Nat.{ℕ, zero, suc, _+_, _-_, _%_, _≤_, _<_}
 use mathlib.Core.Bool.{Bool, true, false, cond}
-use mathlib.Core.Path.{_≡_, refl, sym, ap, _∙_}
+use mathlib.Core.Path.{_≡_, refl, ap}
 use native.Mathlib.Omega.{arith}
-use lib.Dec.{ltb, eqb, lit≤}
+use lib.Dec.{ltb, lit≤}
 use borrow.Author.Tests.{ltb-true, ltb-false, eqb-true, eqb-false, lt-ltb, le-ltb}
 use Rattle.calendar.specs.declared.dates.Date.{Date}
-use Rattle.calendar.specs.Days.{leap, monthLength, yearStart, daysBefore, monthStart, dayNumber, dayOf, date, dateFrom, yearOf, dateOf, yearAfter, monthAfter, yearBefore, monthBefore, dayAfter}
+use Rattle.calendar.specs.Days.{lastDay, leap, monthLength, yearStart, daysBefore, monthStart, dayNumber, dayOf, date, dateFrom, yearOf, dateOf, yearAfter, monthAfter, dayAfter}
 use Rattle.calendar.proofs.Ranges.{Within, Month, Valid, cond-le, le-cond}
 
 -- a month has 28 to 31 days
@@ -171,7 +171,7 @@ date-valid n =
     record { year-from = omega (arith, f .year-is, year-of-least n); month = f .month; day = rw (f .year-is) (f .day) }
 
 -- a day of the calendar has a year of the calendar
-pub date-year-last : (n : ℕ) → n ≤ 36524 → dateOf n .year ≤ 2099
+pub date-year-last : (n : ℕ) → n ≤ lastDay → dateOf n .year ≤ 2099
 unfolding yearOf
 date-year-last n h = omega (arith, date-from n .year-is)
 
@@ -215,12 +215,12 @@ date-day d v =
     (find 11 y 1 (n - yearStart y) m (d .day) (omega arith) (v .month .from) (omega (arith, v .month .to)) (v .day .from) (v .day .to) (omega (arith, january y)))
 
 -- a month of the calendar ends in it
-pub month-in : (y m : ℕ) → Month y m → monthStart y m + monthLength y m ≤ 36525
+pub month-in : (y m : ℕ) → Month y m → monthStart y m + monthLength y m ≤ lastDay + 1
 month-in y m w =
     omega (arith, w .year .to, month-next y m (w .month .from), month-mono y (m + 1) 13 (omega arith) (omega (arith, w .month .to)), year-end y (w .year .from))
 
 -- a date of a year of the calendar has a number of the calendar
-pub in-calendar : (d : Date) → Valid d → d .year ≤ 2099 → dayOf d ≤ 36524
+pub in-calendar : (d : Date) → Valid d → d .year ≤ 2099 → dayOf d ≤ lastDay
 in-calendar d v h =
     omega (arith, v .day .from, v .day .to, month-in (d .year) (d .month) (record { year = record { from = v .year-from; to = h }; month = v .month }))
 
@@ -262,6 +262,6 @@ date-next n =
     rw e at (date-day (dayAfter (dateOf n)) (after-valid (dateOf n) v))
 
 -- "the calendar ends with day 36,524, 31 December 2099"
-pub date-last : dateOf 36524 ≡ date 2099 12 31
+pub date-last : dateOf lastDay ≡ date 2099 12 31
 unfolding dateOf dateFrom yearOf monthLength
 date-last = refl

@@ -6,10 +6,8 @@ use mathlib.Core.Path.{_≡_, refl, sym, ap, _∙_}
 use native.Mathlib.Omega.{arith}
 use lib.Dec.{ltb, leb}
 use borrow.Author.Tests.{ltb-true, ltb-false, lt-ltb, le-ltb, leb-true, leb-false}
-use Rattle.calendar.specs.declared.dates.Date.{Date}
-use Rattle.calendar.specs.Days.{monthLength, yearStart, daysBefore, monthStart, date, dateFrom, yearOf, dateOf, yearAfter, monthAfter, yearBefore, monthBefore}
+use Rattle.calendar.specs.Days.{lastDay, monthLength, yearStart, daysBefore, monthStart, date, dateFrom, yearOf, dateOf, yearAfter, monthAfter, yearBefore, monthBefore}
 use Rattle.calendar.specs.ThermalYears.{calendarYear, calendarMonth, thermalMonthFirst}
-use Rattle.calendar.specs.WorkingDays.{nthWorkingDay, workingDay}
 use Rattle.calendar.specs.Deadlines.{nextFirst, ownDeadline, precedingDeadline}
 use Rattle.calendar.proofs.Ranges.{Within, Month, ThermalMonth, Valid, le-cond}
 use Rattle.calendar.proofs.DateLaws.{day-date, date-valid, date-year-last, month-least, month-most, month-next, month-mono, month-after, month-of, january, year-end}
@@ -17,7 +15,7 @@ use Rattle.calendar.proofs.WorkingDayLaws.{NthWorkingDay, nth-working-d
 use Rattle.calendar.proofs.ThermalYearLaws.{from-january, calendar-month}
 
 -- the month of a day of the calendar
-pub own-month : (a : ℕ) → a ≤ 36524 → Month (dateOf a .year) (dateOf a .month)
+pub own-month : (a : ℕ) → a ≤ lastDay → Month (dateOf a .year) (dateOf a .month)
 own-month a h =
     let v = date-valid a in
     record { year = record { from = v .year-from; to = date-year-last a h }; month = v .month }
@@ -111,7 +109,7 @@ last-month-first : monthStart 2099 12 ≡ 36494
 unfolding monthStart daysBefore monthLength
 last-month-first = refl
 
-pub next-in : (a : ℕ) → a ≤ 36493 → nextFirst a ≤ 36524
+pub next-in : (a : ℕ) → a ≤ 36493 → nextFirst a ≤ lastDay
 next-in a h =
     omega (arith, last-month-first, next-least a 2099 12 (omega arith) (record { from = omega arith; to = omega arith }) (omega (arith, last-month-first)))
 
@@ -119,15 +117,15 @@ past-the-end : nextFirst 36494 ≡ 36525
 unfolding nextFirst dateOf dateFrom yearOf monthStart daysBefore monthLength
 past-the-end = refl
 
-pub next-out : (a : ℕ) → 36493 < a → 36524 < nextFirst a
+pub next-out : (a : ℕ) → 36493 < a → lastDay < nextFirst a
 next-out a h = omega (arith, past-the-end, next-mono 36494 a h)
 
 -- the n-th working day of a day's own month lies in that month, so before the next first, and is a working day
-pub own-deadline : (a n : ℕ) → a ≤ 36524 → Within 1 18 n → NthWorkingDay (dateOf a .year) (dateOf a .month) (ownDeadline a n)
+pub own-deadline : (a n : ℕ) → a ≤ lastDay → Within 1 18 n → NthWorkingDay (dateOf a .year) (dateOf a .month) (ownDeadline a n)
 unfolding ownDeadline
 own-deadline a n h w = nth-working-day (dateOf a .year) (dateOf a .month) n (own-month a h) w
 
-pub own-before-next : (a n : ℕ) → a ≤ 36524 → Within 1 18 n → ownDeadline a n < nextFirst a
+pub own-before-next : (a n : ℕ) → a ≤ lastDay → Within 1 18 n → ownDeadline a n < nextFirst a
 own-before-next a n h w = omega (arith, next-is a, own-deadline a n h w .to)
 
 -- the month before month k of a thermal year: up to month 4, January, it lies in the year in which the thermal year begins

@@ -6,7 +6,7 @@ use mathlib.Core.Path.{_≡_}
 use lib.Dec.{leb}
 use borrow.Author.Tests.{leb-true, le-leb}
 use Rattle.calendar.specs.declared.dates.Date.{Date}
-use Rattle.calendar.specs.Days.{between, isYear, isMonth, monthLength, isDate, movesOn}
+use Rattle.calendar.specs.Days.{between, isYear, isMonth, monthLength, isDate}
 use Rattle.calendar.specs.ThermalYears.{isThermalYear, isThermalMonth}
 
 pub and-left : (a b : Bool) → (a && b) ≡ true → a ≡ true

@@ -6,10 +6,10 @@ use mathlib.Core.Path.{_≡_, refl, ap}
 use native.Mathlib.Omega.{arith}
 use lib.Dec.{leb}
 use borrow.Author.Tests.{leb-true, leb-false, le-leb, lt-leb}
-use Rattle.calendar.specs.Days.{leap, monthLength, daysBefore, yearStart, monthStart, dayNumber, yearAfter, monthAfter}
+use Rattle.calendar.specs.Days.{lastDay, leap, monthLength, daysBefore, yearStart, monthStart}
 use Rattle.calendar.specs.ThermalYears.{thermalFirst, thermalLast, calendarYear, calendarMonth, thermalMonthFirst, thermalMonthLast}
 use Rattle.calendar.proofs.Ranges.{Within, Month, ThermalMonth, le-cond}
-use Rattle.calendar.proofs.DateLaws.{month-least, month-most, month-next, month-mono, month-after, january, year-end, year-next}
+use Rattle.calendar.proofs.DateLaws.{month-least, month-next, month-mono, january, year-end, year-next}
 
 september : (y : ℕ) → monthLength y 9 ≡ 30
 unfolding monthLength
@@ -42,7 +42,7 @@ pub thermal-order : (y : ℕ) → 2000 ≤ y → thermalFirst y + 364 ≤ therma
 thermal-order y h =
     omega (arith, thermal-next y, thermal-days y h, le-cond (leap (y + 1)) 366 365 365 (omega arith) (omega arith))
 
-pub thermal-last : (y : ℕ) → Within 2000 2098 y → thermalLast y ≤ 36524
+pub thermal-last : (y : ℕ) → Within 2000 2098 y → thermalLast y ≤ lastDay
 thermal-last y w =
     omega (arith, w .from, w .to, thermal-next y, month-mono (y + 1) 10 13 (omega arith) (omega arith), year-end (y + 1) (omega (arith, w .from)))
 

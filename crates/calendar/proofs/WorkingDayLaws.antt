@@ -2,16 +2,15 @@
 -- its 1,200 months.
 -- Assumes nothing.
 use Prim.Native.Nat.{ℕ, zero, suc, _+_, _-_, _*_, _/_, _%_, _≤_, _<_}
-use mathlib.Core.Bool.{Bool, true, false, cond, _&&_}
-use mathlib.Core.Path.{_≡_, refl, sym, ap, _∙_}
-use mathlib.Core.List.{List, [], _∷_}
+use mathlib.Core.Bool.{Bool, true, false}
+use mathlib.Core.Path.{_≡_, refl, ap, _∙_}
+use mathlib.Core.List.{_∷_}
 use native.Mathlib.Omega.{arith}
 use lib.Dec.{leb, ltb, eqb, T, leb→le, eqb→eq}
 use lib.ListN.{length, getD}
 use borrow.Author.Tests.{ltb-true, ltb-false}
-use Rattle.calendar.specs.declared.dates.Date.{Date}
-use Rattle.calendar.specs.Days.{monthLength, daysBefore, monthStart, dayNumber, weekday, date, dateOf}
-use Rattle.calendar.specs.WorkingDays.{gaussA, gaussB, gaussC, gaussD, gaussE, weekEarlier, easterOffset, easter, fixedHoliday, working, workingDay, keepIf, workingFrom, workingDays, workingCount, nthOfMonth, nthWorkingDay}
+use Rattle.calendar.specs.Days.{lastDay, monthLength, daysBefore, monthStart, weekday, date, dateOf}
+use Rattle.calendar.specs.WorkingDays.{gaussA, gaussB, gaussC, gaussD, gaussE, weekEarlier, easterOffset, easterSunday, fixedHoliday, working, workingDay, keepIf, workingFrom, workingDays, workingCount, nthOfMonth, nthWorkingDay}
 use Rattle.calendar.proofs.Every.{every, at}
 use Rattle.calendar.proofs.Ranges.{Within, Month, cond-le}
 use Rattle.calendar.proofs.DateLaws.{month-least, month-next, month-mono, month-in, month-of, year-end}
@@ -22,23 +21,23 @@ unfolding easterOffset gaussA gaussB gaussC gaussD gaussE
 easter-near y = cond-le (weekEarlier y) _ _ 35 (omega arith) (omega arith)
 
 -- Easter and the day after it lie in the calendar
-pub easter-last : (y : ℕ) → Within 2000 2099 y → easter y + 1 ≤ 36524
+pub easter-last : (y : ℕ) → Within 2000 2099 y → easterSunday y + 1 ≤ lastDay
 easter-last y w =
     omega (arith, w .from, w .to, easter-near y, month-next y 3 (omega arith), month-next y 4 (omega arith), month-next y 5 (omega arith), month-least y 3, month-least y 4, month-least y 5, month-mono y 6 13 (omega arith) (omega arith), year-end y (w .from))
 
 -- Easter is a Sunday: one test over the calendar's 100 years
 sunday : ℕ → Bool
-sunday i = eqb (weekday (easter (2000 + i))) 6
+sunday i = eqb (weekday (easterSunday (2000 + i))) 6
 
 all-sundays : T (every sunday 100)
 unfolding sunday monthLength daysBefore monthStart gaussA gaussB gaussC gaussD gaussE weekEarlier easterOffset
 all-sundays = tt
 
-pub easter-sunday : (y : ℕ) → Within 2000 2099 y → weekday (easter y) ≡ 6
+pub easter-sunday : (y : ℕ) → Within 2000 2099 y → weekday (easterSunday y) ≡ 6
 unfolding sunday
 easter-sunday y w =
     let p : 2000 + (y - 2000) ≡ y = omega (arith, w .from) in
-    rw p at (eqb→eq (weekday (easter (2000 + (y - 2000)))) 6 (at sunday 100 all-sundays (y - 2000) (omega (arith, w .to))))
+    rw p at (eqb→eq (weekday (easterSunday (2000 + (y - 2000)))) 6 (at sunday 100 all-sundays (y - 2000) (omega (arith, w .to))))
 
 -- month i of the calendar, counted from January 2000, has at least 18 working days
 enough : ℕ → Bool
@@ -103,7 +102,7 @@ nth-working-day y m n w h =
     record { from = p; to = q; works = rw e (f .works) }
 
 -- the n-th working day of a month of the calendar is a day of the calendar
-pub nth-last : (y m n : ℕ) → Month y m → Within 1 18 n → nthWorkingDay y m n ≤ 36524
+pub nth-last : (y m n : ℕ) → Month y m → Within 1 18 n → nthWorkingDay y m n ≤ lastDay
 nth-last y m n w h = omega (arith, nth-working-day y m n w h .to, month-in y m w)
 
 -- a turn of the walk through the days before day e: day d is passed over, or is the first of the working days

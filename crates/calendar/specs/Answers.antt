@@ -2,7 +2,7 @@
 -- so no function answers it with a wrong date.
 -- Assumes nothing.
 use Prim.Native.Nat.{ℕ}
-use mathlib.Core.Bool.{Bool, cond, _&&_}
+use mathlib.Core.Bool.{cond, _&&_}
 use lib.Dec.{leb}
 use Rattle.calendar.specs.declared.dates.Date.{Date}
 use Rattle.calendar.specs.declared.dates.GasDay.{GasDay}
@@ -19,7 +19,7 @@ use Rattle.calendar.specs.declared.deadlines.Timeliness.{Timeliness}
 use Rattle.calendar.specs.declared.deadlines.Timeliness.the-variants.{InTime, Late, OutsideCalendar as no-term}
 use Rattle.calendar.specs.Days.{between, inCalendar, isYear, isMonth, isDate, monthLength, monthStart, dayNumber, dateOf, dayOf, dayAfter, movesOn}
 use Rattle.calendar.specs.ThermalYears.{isThermalYear, isThermalMonth, thermalFirst, thermalLast, thermalMonthFirst, thermalMonthLast}
-use Rattle.calendar.specs.WorkingDays.{easter, workingDay, workingCount, nthWorkingDay}
+use Rattle.calendar.specs.WorkingDays.{easterSunday, workingDay, workingCount, nthWorkingDay}
 use Rattle.calendar.specs.Deadlines.{nextFirst, precedingDeadline, inTimeOwn, inTimePreceding}
 
 -- the date of a day
@@ -45,7 +45,7 @@ nextFirstAnswer a = dayIn (nextFirst a)
 
 -- Easter Sunday of a year
 unfoldable pub easterAnswer : ℕ → GasDay
-easterAnswer y = cond (isYear y) (Day (easter y)) no-day
+easterAnswer y = cond (isYear y) (Day (easterSunday y)) no-day
 
 -- whether a day is a working day
 unfoldable pub kindAnswer : ℕ → DayKind

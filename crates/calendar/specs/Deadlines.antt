@@ -2,8 +2,8 @@
 -- term. The calls above say which of them is theirs.
 -- Assumes nothing.
 use Prim.Native.Nat.{ℕ}
-use mathlib.Core.Bool.{Bool, cond}
-use lib.Dec.{leb, ltb}
+use mathlib.Core.Bool.{Bool}
+use lib.Dec.{leb}
 use Rattle.calendar.specs.Days.{monthStart, dateOf, yearAfter, monthAfter, yearBefore, monthBefore}
 use Rattle.calendar.specs.ThermalYears.{calendarYear, calendarMonth}
 use Rattle.calendar.specs.WorkingDays.{nthWorkingDay}

@@ -36,8 +36,8 @@ unfoldable pub easterOffset : ℕ → ℕ
 easterOffset y = cond (weekEarlier y) (gaussD y + gaussE y - 7) (gaussD y + gaussE y)
 
 -- the number of Easter Sunday of year y
-abbrev pub easter : ℕ → ℕ
-easter y = dayNumber y 3 22 + easterOffset y
+abbrev pub easterSunday : ℕ → ℕ
+easterSunday y = dayNumber y 3 22 + easterOffset y
 
 -- "1 and 6 January, [..] 25 April, 1 May, 2 June, 15 August, 1 November, 8, 25 and 26 December"
 unfoldable pub fixedHoliday : ℕ → ℕ → Bool
@@ -51,14 +51,17 @@ fixedHoliday m d =
     (cond (eqb m 12) ((eqb d 8 || eqb d 25) || eqb d 26)
     false))))))
 
--- the test of a working day, "Monday to Friday and no holiday", of day n, which is day d of month m, in a year whose
--- Easter Monday is day e
-abbrev pub workingOn : ℕ → ℕ → ℕ → ℕ → Bool
-workingOn n e m d = ltb (weekday n) 5 && not (fixedHoliday m d || eqb n e)
+-- "Easter Monday"
+abbrev pub easterMonday : ℕ → ℕ
+easterMonday y = easterSunday y + 1
 
--- day d of month m of year y is a working day
+-- "Holidays": day d of month m of year y is one
+abbrev pub holiday : ℕ → ℕ → ℕ → Bool
+holiday y m d = fixedHoliday m d || eqb (dayNumber y m d) (easterMonday y)
+
+-- "A working day is Monday to Friday and no holiday."
 abbrev pub working : ℕ → ℕ → ℕ → Bool
-working y m d = workingOn (dayNumber y m d) (easter y + 1) m d
+working y m d = ltb (weekday (dayNumber y m d)) 5 && not (holiday y m d)
 
 -- day n is a working day
 abbrev pub workingDay : ℕ → Bool

@@ -1,8 +1,10 @@
 // Easter, holidays and working days.
 ghost use mathlib.Core.Path.{_≡_};
 ghost use Prim.Native.Nat.{_≤_, _<_, _^_};
-ghost use Rattle.calendar.specs.WorkingDays.{easterOffset, easter, fixedHoliday, workingOn, workingCount, nthOfMonth};
-ghost use Rattle.calendar.specs.WorkingDays.{easter as easterNumber};
+ghost use mathlib.Core.Bool.{not, _&&_, _||_};
+ghost use lib.Dec.{ltb, eqb};
+ghost use Rattle.calendar.specs.Days.{weekday};
+ghost use Rattle.calendar.specs.WorkingDays.{easterOffset, easterSunday, easterMonday, fixedHoliday, workingCount, nthOfMonth};
 ghost use Rattle.calendar.specs.Answers.{easterAnswer, kindAnswer, countAnswer, nthAnswer};
 use crate::dates::GasDay;
 use crate::dates::LAST_DAY;
@@ -39,11 +41,17 @@ fn easter_offset(year: u16) -> u8
     (d + e) as u8
 }
 
-fn easter_number(year: u16) -> u32
-    ensures { λ r. ⌜ r ≡ easterNumber year ⌝ }
+fn easter_sunday(year: u16) -> u32
+    ensures { λ r. ⌜ r ≡ easterSunday year ⌝ }
     ensures { λ r. ⌜ r < 2 ^ 28 ⌝ }
 {
     day_number(year, 3, 22) + easter_offset(year) as u32
+}
+
+fn easter_monday(year: u16) -> u32
+    ensures { λ r. ⌜ r ≡ easterMonday year ⌝ }
+{
+    easter_sunday(year) + 1
 }
 
 // Whether a date is one of the holidays that have the same date every year.
@@ -62,13 +70,14 @@ fn is_fixed_holiday(month: u8, day: u8) -> bool
     }
 }
 
-// Whether day `number`, which is day `day` of month `month`, is a working day. Its caller finds Easter Monday once for a month.
-fn is_working(number: u32, easter_monday: u32, month: u8, day: u8) -> bool
+// Whether the day with this number, which is this day of this month, is a working day. The caller gives Easter Monday, which it
+// finds once for a month.
+fn is_working(number: u32, monday: u32, month: u8, day: u8) -> bool
     requires { ⌜ number < 2 ^ 28 ⌝ }
-    ensures { λ r. ⌜ r ≡ workingOn number «easter_monday» month day ⌝ }
+    ensures { λ r. ⌜ r ≡ (ltb (weekday number) 5 && not (fixedHoliday month day || eqb number monday)) ⌝ }
 {
-    let off = is_fixed_holiday(month, day) | (number == easter_monday);
-    ((number + 5) % 7 < 5) & !off
+    let holiday = is_fixed_holiday(month, day) | (number == monday);
+    ((number + 5) % 7 < 5) & !holiday
 }
 
 // Easter Sunday of a year.
@@ -76,7 +85,7 @@ pub fn easter(year: u16) -> GasDay
     ensures { λ r. ⌜ r ≡ easterAnswer year ⌝ }
 {
     if is_year(year) {
-        return GasDay::Day(easter_number(year) as u16);
+        return GasDay::Day(easter_sunday(year) as u16);
     }
     GasDay::OutsideCalendar
 }
@@ -89,7 +98,7 @@ pub fn kind_of_day(day: u16) -> DayKind
         return DayKind::OutsideCalendar;
     }
     let d = date_at(day);
-    if is_working(day as u32, easter_number(d.year) + 1, d.month, d.day) {
+    if is_working(day as u32, easter_monday(d.year), d.month, d.day) {
         return DayKind::Working;
     }
     DayKind::Off
@@ -100,7 +109,7 @@ fn count_of_month(year: u16, month: u8) -> u8
     ensures { λ r. ⌜ r ≡ workingCount year month ⌝ }
 {
     let first = month_start(year, month);
-    let monday = easter_number(year) + 1;
+    let monday = easter_monday(year);
     let len = month_length(year, month);
     let mut day: u8 = 1;
     let mut count: u8 = 0;
@@ -129,7 +138,7 @@ fn nth_of_month(year: u16, month: u8, n: u8) -> u8
     ensures { λ r. ⌜ r ≡ nthOfMonth year month n ⌝ }
 {
     let first = month_start(year, month);
-    let monday = easter_number(year) + 1;
+    let monday = easter_monday(year);
     let mut day: u8 = 1;
     let mut left = n;
     loop {

@@ -1,8 +1,8 @@
 use Prim.Native.Nat.{ℕ, _+_, _*_, _-_, _/_, _≤_, _<_}
-use mathlib.Core.Path.{_≡_, refl, sym, _∙_, ap}
+use mathlib.Core.Path.{_≡_, refl, sym, _∙_}
 use native.Mathlib.Omega.{arith}
 use borrow.Author.Needs.{needs}
-use Rattle.calendar.specs.Days.{dateOf, dateFrom, yearOf, monthStart, monthLength, yearStart}
+use Rattle.calendar.specs.Days.{dateOf, dateFrom, yearOf, monthStart}
 use Rattle.calendar.proofs.DateLaws.{date-here, date-on, january, year-from, year-until, year-end, month-next, year-of-least, december}
 use Rattle.calendar.proofs.dates.date_at.Statement.{statement}
 use Rattle.calendar.proofs.dates.date_at.Tie as tie

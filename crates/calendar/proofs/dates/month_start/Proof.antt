@@ -1,7 +1,5 @@
-use native.Mathlib.Omega.{arith}
-use mathlib.Core.Path.{ap}
-use Prim.Native.Nat.{ℕ, _-_}
-use Rattle.calendar.specs.Days.{monthStart, daysBefore}
+use Prim.Native.Nat.{_-_}
+use Rattle.calendar.specs.Days.{monthStart}
 use borrow.Author.Needs.{needs}
 use Rattle.calendar.proofs.dates.month_start.Statement.{statement}
 use Rattle.calendar.proofs.dates.month_start.Tie as tie

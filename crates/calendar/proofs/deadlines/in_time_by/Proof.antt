@@ -1,6 +1,5 @@
-use mathlib.Core.Path.{sym, ap, _∙_, refl}
+use mathlib.Core.Path.{refl}
 use borrow.Author.Tests.{le-leb, lt-leb}
-use Rattle.calendar.specs.Answers.{timely}
 use borrow.Author.Needs.{needs}
 use Rattle.calendar.proofs.deadlines.in_time_by.Statement.{statement}
 use Rattle.calendar.proofs.deadlines.in_time_by.Tie as tie

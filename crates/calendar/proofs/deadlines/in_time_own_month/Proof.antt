@@ -1,5 +1,4 @@
-use mathlib.Core.Path.{_∙_, ap}
-use Rattle.calendar.specs.Answers.{timely, nthAnswer}
+use mathlib.Core.Path.{_∙_}
 use Rattle.calendar.proofs.AnswerLaws.{own-answer, own-outside}
 use borrow.Author.Needs.{needs}
 use Rattle.calendar.proofs.deadlines.in_time_own_month.Statement.{statement}

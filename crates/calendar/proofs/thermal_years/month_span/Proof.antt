@@ -2,9 +2,9 @@ use Prim.Native.Nat.{_+_, _≤_}
 use mathlib.Core.Path.{_≡_, refl, sym, _∙_}
 use mathlib.Core.Bool.{true}
 use native.Mathlib.Omega.{arith}
-use Rattle.calendar.specs.Days.{monthLength, monthStart, isMonth}
+use Rattle.calendar.specs.Days.{lastDay, monthLength, monthStart, isMonth}
 use Rattle.calendar.specs.Answers.{spanOfMonth}
-use Rattle.calendar.proofs.Ranges.{Month, month-of-test}
+use Rattle.calendar.proofs.Ranges.{month-of-test}
 use Rattle.calendar.proofs.DateLaws.{month-least, month-in}
 use borrow.Author.Needs.{needs}
 use Rattle.calendar.proofs.thermal_years.month_span.Statement.{statement}
@@ -23,7 +23,7 @@ tested : (c : tie.Then1) → isMonth (c .before .before .args .year) (c .before 
 tested c = sym (c .before .is-month .ensures) ∙ c .if1 .taken
 
 -- the month ends in the calendar
-ends : (c : tie.Then1) → monthStart (c .before .before .args .year) (c .before .before .args .month) + monthLength (c .before .before .args .year) (c .before .before .args .month) ≤ 36525
+ends : (c : tie.Then1) → monthStart (c .before .before .args .year) (c .before .before .args .month) + monthLength (c .before .before .args .year) (c .before .before .args .month) ≤ lastDay + 1
 ends c = let a = c .before .before .args in month-in (a .year) (a .month) (month-of-test (a .year) (a .month) (tested c))
 
 -- and has a day

@@ -18,11 +18,8 @@ abbrev μ-loop : tie.MeasureT-loop
 month-start-requires : tie.Need-month-start-requires Inv-loop μ-loop
 month-start-requires c κs = search needs
 
-easter-number-requires : tie.Need-easter-number-requires Inv-loop μ-loop
-easter-number-requires c κs = search needs
-
-add-monday : tie.Need-add-monday Inv-loop μ-loop
-add-monday c = search needs
+easter-monday-requires : tie.Need-easter-monday-requires Inv-loop μ-loop
+easter-monday-requires c κs = search needs
 
 month-length-requires : tie.Need-month-length-requires Inv-loop μ-loop
 month-length-requires c κs = search needs
@@ -62,7 +59,7 @@ loop-less c = omega arith
 -- what `is_working` answers is whether the day is a working day
 answered : (c : tie.After-is-working Inv-loop μ-loop) → c .is-working .result ≡ working (c .before .before .before .before .before .before .args .year) (c .before .before .before .before .before .before .args .month) (c .before .before .loop .day)
 answered c =
-    c .is-working .ensures ∙ rw (c .before .before .before .before .before .month-start .ensures .0, c .before .before .before .before .easter-number .ensures .0)
+    c .is-working .ensures ∙ rw (c .before .before .before .before .before .month-start .ensures .0, c .before .before .before .before .easter-monday .ensures)
 
 loop-again : tie.Need-loop-again Inv-loop μ-loop
 loop-again c =
@@ -82,8 +79,7 @@ count-of-month-spec =
     Inv-loop
     μ-loop
     month-start-requires
-    easter-number-requires
-    add-monday
+    easter-monday-requires
     month-length-requires
     loop-holds
     cast-is-working

@@ -12,8 +12,8 @@ use Rattle.calendar.proofs.working_days.easter.Tie as tie
 is-year-requires : tie.Need-is-year-requires
 is-year-requires c κs = search needs
 
-easter-number-requires : tie.Need-easter-number-requires
-easter-number-requires c κs = search needs
+easter-sunday-requires : tie.Need-easter-sunday-requires
+easter-sunday-requires c κs = search needs
 
 cast-t4 : tie.Need-cast-t4
 cast-t4 c =
@@ -23,11 +23,11 @@ cast-t4 c =
 
 returns : tie.Need-returns
 unfolding easterAnswer
-returns c = rw (c .easter-number .ensures .0, sym (c .before .before .is-year .ensures) ∙ c .before .if1 .taken)
+returns c = rw (c .easter-sunday .ensures .0, sym (c .before .before .is-year .ensures) ∙ c .before .if1 .taken)
 
 returns-2 : tie.Need-returns-2
 unfolding easterAnswer
 returns-2 c = rw (sym (c .before .is-year .ensures) ∙ c .if1 .left)
 
 pub easter-spec : {M : Type 1} → statement M
-easter-spec = tie.close (tie.spec is-year-requires easter-number-requires cast-t4 returns returns-2)
+easter-spec = tie.close (tie.spec is-year-requires easter-sunday-requires cast-t4 returns returns-2)

@@ -14,11 +14,8 @@ returns c = simp (lt-leb _ _ (c .if1 .taken))
 date-at-requires : tie.Need-date-at-requires
 date-at-requires c κs = search needs
 
-easter-number-requires : tie.Need-easter-number-requires
-easter-number-requires c κs = search needs
-
-add-is-working : tie.Need-add-is-working
-add-is-working c = search needs
+easter-monday-requires : tie.Need-easter-monday-requires
+easter-monday-requires c κs = search needs
 
 is-working-requires : tie.Need-is-working-requires
 is-working-requires c κs = search needs
@@ -27,7 +24,7 @@ is-working-requires c κs = search needs
 answered : (c : tie.After-is-working) → c .is-working .result ≡ workingDay (c .before .before .before .before .args .day)
 answered c =
     let n = c .before .before .before .before .args .day in
-    c .is-working .ensures ∙ rw (c .before .easter-number .ensures .0, c .before .before .date-at .ensures, day-date n)
+    c .is-working .ensures ∙ rw (c .before .easter-monday .ensures, c .before .before .date-at .ensures, day-date n)
 
 returns-2 : tie.Need-returns-2
 unfolding kindAnswer
@@ -45,8 +42,7 @@ kind-of-day-spec =
     (tie.spec
     returns
     date-at-requires
-    easter-number-requires
-    add-is-working
+    easter-monday-requires
     is-working-requires
     returns-2
     returns-3)

@@ -20,11 +20,8 @@ abbrev μ-loop : tie.MeasureT-loop
 month-start-requires : tie.Need-month-start-requires Inv-loop μ-loop
 month-start-requires c κs = search needs
 
-easter-number-requires : tie.Need-easter-number-requires Inv-loop μ-loop
-easter-number-requires c κs = search needs
-
-add-monday : tie.Need-add-monday Inv-loop μ-loop
-add-monday c = search needs
+easter-monday-requires : tie.Need-easter-monday-requires Inv-loop μ-loop
+easter-monday-requires c κs = search needs
 
 loop-holds : tie.Need-loop-holds Inv-loop μ-loop
 unfolding nthOfMonth workingDays
@@ -55,7 +52,7 @@ is-working-requires c κs = omega (arith, small c)
 -- what `is_working` answers is whether the day is a working day
 answered : (c : tie.After-is-working Inv-loop μ-loop) → c .is-working .result ≡ working (c .before .before .before .before .args .year) (c .before .before .before .before .args .month) (c .before .loop .day)
 answered c =
-    c .is-working .ensures ∙ rw (c .before .before .before .month-start .ensures .0, c .before .before .easter-number .ensures .0)
+    c .is-working .ensures ∙ rw (c .before .before .before .month-start .ensures .0, c .before .before .easter-monday .ensures)
 
 returns : tie.Need-returns Inv-loop μ-loop
 returns c =
@@ -87,8 +84,7 @@ nth-of-month-spec =
     Inv-loop
     μ-loop
     month-start-requires
-    easter-number-requires
-    add-monday
+    easter-monday-requires
     loop-holds
     cast-is-working
     sub-is-working
