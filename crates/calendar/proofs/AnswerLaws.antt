@@ -5,8 +5,8 @@ use mathlib.Core.Bool.{Bool, true, false, cond, _&&_}
 use mathlib.Core.Path.{_≡_, refl}
 use lib.Dec.{leb}
 use borrow.Author.Tests.{le-leb, lt-leb}
-use Rattle.calendar.specs.declared.dates.GasDay.the-variants.{Day, OutsideCalendar as no-day}
-use Rattle.calendar.specs.declared.deadlines.Timeliness.the-variants.{InTime, Late, OutsideCalendar as no-term}
+use Rattle.calendar.specs.declared.dates.GasDay.the-variants.{Day, OutsideCalendar as NoDay}
+use Rattle.calendar.specs.declared.deadlines.Timeliness.the-variants.{InTime, Late, OutsideCalendar as NoTerm}
 use Rattle.calendar.specs.Days.{lastDay, between, isMonth, dateOf}
 use Rattle.calendar.specs.ThermalYears.{isThermalMonth}
 use Rattle.calendar.specs.Deadlines.{ownDeadline, precedingDeadline}
@@ -15,7 +15,7 @@ use Rattle.calendar.proofs.Ranges.{ThermalMonth, is-month}
 use Rattle.calendar.proofs.DeadlineLaws.{own-month, preceding-early, preceding-late, preceding-month}
 
 -- an arrival is compared with a day that a test lets stand
-timely-if : (b : Bool) (a d : ℕ) → timely a (cond b (Day d) no-day) ≡ cond b (cond (leb a d) InTime Late) no-term
+timely-if : (b : Bool) (a d : ℕ) → timely a (cond b (Day d) NoDay) ≡ cond b (cond (leb a d) InTime Late) NoTerm
 timely-if true a d = refl
 timely-if false a d = refl
 
@@ -25,7 +25,7 @@ own-answer a n h =
     rw (is-month (dateOf a .year) (dateOf a .month) (own-month a h), le-leb a lastDay h)
     (timely-if (between 1 18 n) a (ownDeadline a n))
 
-pub own-outside : (a n : ℕ) → lastDay < a → no-term ≡ ownAnswer a n
+pub own-outside : (a n : ℕ) → lastDay < a → NoTerm ≡ ownAnswer a n
 unfolding ownAnswer
 own-outside a n h = rw (lt-leb a lastDay h)
 
@@ -34,7 +34,7 @@ unfolding precedingDay precedingAnswer
 preceding-answer a y k n h =
     rw (le-leb a lastDay h) (timely-if (isThermalMonth y k && between 1 18 n) a (precedingDeadline y k n))
 
-pub preceding-outside : (a y k n : ℕ) → lastDay < a → no-term ≡ precedingAnswer a y k n
+pub preceding-outside : (a y k n : ℕ) → lastDay < a → NoTerm ≡ precedingAnswer a y k n
 unfolding precedingAnswer
 preceding-outside a y k n h = rw (lt-leb a lastDay h)
 

@@ -1,3 +1,7 @@
+-- `calendar::dates::date_at` meets its contract.
+-- The year is found by one division. The loop goes through its months: the date sought is that which is `rest` days after the first of
+-- `month`. In December fewer than 31 days are left.
+-- Assumes nothing.
 use Prim.Native.Nat.{ℕ, _+_, _*_, _-_, _/_, _≤_, _<_}
 use mathlib.Core.Path.{_≡_, refl, sym, _∙_}
 use native.Mathlib.Omega.{arith}

@@ -1,3 +1,6 @@
+-- `calendar::dates::days_before` meets its contract.
+-- The sum so far is that of the months passed.
+-- Assumes nothing.
 use Prim.Native.Nat.{ℕ, _*_, _-_, _≤_}
 use mathlib.Core.Path.{_≡_, refl, _∙_, ap}
 use native.Mathlib.Omega.{arith}

@@ -1,3 +1,6 @@
+-- `calendar::dates::next_date` meets its contract.
+-- A date that is moved on exists, so its year is at most 2099 and the next one fits.
+-- Assumes nothing.
 use mathlib.Core.Path.{_≡_, refl, sym, _∙_}
 use mathlib.Core.Bool.{true, not, _&&_}
 use lib.Dec.{eqb}

@@ -1,3 +1,6 @@
+-- `calendar::deadlines::next_first` meets its contract.
+-- In December the next first is 1 January, in the other months that of the next month of the year.
+-- Assumes nothing.
 use Prim.Native.Nat.{_≤_, _<_}
 use mathlib.Core.Path.{_≡_, sym, ap, _∙_}
 use native.Mathlib.Omega.{arith}

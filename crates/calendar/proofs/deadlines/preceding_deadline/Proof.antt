@@ -1,3 +1,6 @@
+-- `calendar::deadlines::preceding_deadline` meets its contract.
+-- The month before months 1 to 4 lies in the first calendar year of the thermal year, that before 5 to 12 in its second.
+-- Assumes nothing.
 use mathlib.Core.Path.{_≡_, refl, sym, _∙_}
 use mathlib.Core.Bool.{true}
 use native.Mathlib.Omega.{arith}

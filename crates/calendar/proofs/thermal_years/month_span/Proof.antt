@@ -1,3 +1,6 @@
+-- `calendar::thermal_years::month_span` meets its contract.
+-- The last day of a month of the calendar lies in the calendar, so both days fit.
+-- Assumes nothing.
 use Prim.Native.Nat.{_+_, _≤_}
 use mathlib.Core.Path.{_≡_, refl, sym, _∙_}
 use mathlib.Core.Bool.{true}

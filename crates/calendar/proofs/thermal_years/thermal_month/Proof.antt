@@ -1,3 +1,6 @@
+-- `calendar::thermal_years::thermal_month` meets its contract.
+-- A month of a thermal year is a month of the calendar: months 1 to 3 in its first calendar year, 4 to 12 in its second.
+-- Assumes nothing.
 use mathlib.Core.Path.{_≡_, refl, sym, _∙_}
 use mathlib.Core.Bool.{true}
 use native.Mathlib.Omega.{arith}

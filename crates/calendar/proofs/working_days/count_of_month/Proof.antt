@@ -1,3 +1,6 @@
+-- `calendar::working_days::count_of_month` meets its contract.
+-- The working days counted and those from `day` on are together those of the month.
+-- Assumes nothing.
 use Prim.Native.Nat.{_+_, _-_, _<_, _≤_}
 use mathlib.Core.Path.{_≡_, refl, sym, _∙_}
 use mathlib.Core.Logic.{⊎-elim}

@@ -1,3 +1,6 @@
+-- `calendar::working_days::easter_offset` meets its contract.
+-- A week can be taken from d + e in the two exceptions, since d is 28 or 29 there.
+-- Assumes nothing.
 use mathlib.Core.Path.{_≡_, refl}
 use mathlib.Core.Bool.{Bool, true, false, _&&_, _||_}
 use Prim.Native.Nat.{ℕ, _≤_}

@@ -23,8 +23,7 @@ is-working-requires c κs = search needs
 -- what `is_working` answers is whether the day is a working day
 answered : (c : tie.After-is-working) → c .is-working .result ≡ workingDay (c .before .before .before .before .args .day)
 answered c =
-    let n = c .before .before .before .before .args .day in
-    c .is-working .ensures ∙ rw (c .before .easter-monday .ensures, c .before .before .date-at .ensures, day-date n)
+    rw (c .is-working .ensures, c .before .easter-monday .ensures, c .before .before .date-at .ensures, day-date (c .before .before .before .before .args .day))
 
 returns-2 : tie.Need-returns-2
 unfolding kindAnswer

@@ -1,3 +1,7 @@
+-- `calendar::working_days::nth_of_month` meets its contract.
+-- The day sought stays the `left`-th working day from `day` on. As long as one is left, `day` is a day of the month, so the loop needs no
+-- test for its end.
+-- Assumes nothing.
 use Prim.Native.Nat.{_+_, _-_, _≤_}
 use mathlib.Core.Path.{_≡_, refl, sym, _∙_}
 use mathlib.Core.Logic.{⊎-elim}

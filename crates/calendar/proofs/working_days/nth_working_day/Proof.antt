@@ -1,3 +1,6 @@
+-- `calendar::working_days::nth_working_day` meets its contract.
+-- Each month of the calendar has 18 working days (`eighteen`), so what `nth_of_month` asks holds.
+-- Assumes nothing.
 use mathlib.Core.Path.{_≡_, refl}
 use mathlib.Core.Bool.{true, _&&_}
 use native.Mathlib.Omega.{arith}
