@@ -258,3 +258,19 @@ pub fn thermal_month(year: u16, month: u8) -> Option<(u32, u32)> {
     let last = Date::new(year, month, days_in_month(year, month)?)?;
     Some((first.day_number(), last.day_number()))
 }
+
+/// The `n`-th working day of the month of a date. Scope paper, question 9: an
+/// annual request is in time up to the 11th, a cession up to the 16th, that day
+/// included.
+pub fn own_deadline(arrival: Date, n: usize) -> Option<Date> {
+    nth_working_day(arrival.year, arrival.month, n)
+}
+
+/// The `n`-th working day of the month before a month of a thermal year. Scope
+/// paper, question 9: a monthly request is in time up to the 11th, that day
+/// included.
+pub fn preceding_deadline(year: u16, month: u8, n: usize) -> Option<Date> {
+    let (first, _) = thermal_month(year, month)?;
+    let day_before = Date::from_day_number(first.checked_sub(1)?)?;
+    own_deadline(day_before, n)
+}

@@ -12,19 +12,25 @@ fn output() -> String {
 }
 
 #[test]
-fn prints_easter_months_and_thermal_years_in_order() {
+fn prints_every_section_in_order() {
     let output = output();
     assert!(output.ends_with('\n'));
     let lines: Vec<&str> = output.lines().collect();
-    assert_eq!(lines.len(), 100 + 1_200 + 99);
+    assert_eq!(lines.len(), 100 + 1_200 + 99 + 1_200);
     assert!(lines[..100].iter().all(|line| line.starts_with("Easter ")));
-    assert!(lines[1_300..]
+    assert!(lines[1_300..1_399]
         .iter()
         .all(|line| line.starts_with("thermal ") && line.split(' ').count() == 16));
-    for (index, line) in lines[100..1_300].iter().enumerate() {
-        let month = format!("{}-{:02} ", 2000 + index / 12, index % 12 + 1);
+    assert_months(&lines[100..1_300], "", 6);
+    assert_months(&lines[1_399..], "days ", 8);
+}
+
+/// Asserts that there is a line for each month, with so many words.
+fn assert_months(lines: &[&str], prefix: &str, words: usize) {
+    for (index, line) in lines.iter().enumerate() {
+        let month = format!("{prefix}{}-{:02} ", 2000 + index / 12, index % 12 + 1);
         assert!(line.starts_with(&month), "{line}");
-        assert_eq!(line.split(' ').count(), 6, "{line}");
+        assert_eq!(line.split(' ').count(), words, "{line}");
     }
 }
 
@@ -36,4 +42,11 @@ fn prints_known_lines() {
     // December 2023: 18 working days, the 16th on the 27th.
     assert_eq!(lines[100 + 23 * 12 + 11], "2023-12 18 15 18 21 27");
     assert!(lines[1_300].starts_with("thermal 2000 274 638 274 305 335 366 "));
+    // October 2023: 22 working days, the 11th on the 16th; 1 November is day 8,705.
+    assert_eq!(
+        lines[1_399 + 23 * 12 + 9],
+        "days 2023-10 31 22 16 16 31 8705"
+    );
+    // 31 December 2099 is the last day.
+    assert_eq!(lines[2_598], "days 2099-12 31 21 16 0 30 0");
 }

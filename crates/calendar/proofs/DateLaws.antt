@@ -7,7 +7,7 @@ use native.Mathlib.Omega.{arith}
 use lib.Dec.{ltb, lit≤}
 use borrow.Author.Tests.{ltb-true, ltb-false, eqb-true, eqb-false, lt-ltb, le-ltb}
 use Rattle.calendar.specs.declared.dates.Date.{Date}
-use Rattle.calendar.specs.Days.{lastDay, leap, monthLength, yearStart, daysBefore, monthStart, dayNumber, dayOf, date, dateFrom, yearOf, dateOf, yearAfter, monthAfter, dayAfter}
+use Rattle.calendar.specs.Days.{lastDay, weekday, leap, monthLength, yearStart, daysBefore, monthStart, dayNumber, dayOf, date, dateFrom, yearOf, dateOf, yearAfter, monthAfter, dayAfter}
 use Rattle.calendar.proofs.Ranges.{Within, Month, Valid, cond-le, le-cond}
 
 -- a month has 28 to 31 days
@@ -250,7 +250,11 @@ after-day d v = go (ltb (d .day) (monthLength (d .year) (d .month))) refl
     go false p =
         omega (arith, v .day .from, v .day .to, ltb-false (d .day) (monthLength (d .year) (d .month)) p, month-after (d .year) (d .month) (v .year-from) (v .month .from) (v .month .to))
 
--- "Day 0 is [..] 1 January 2000", and the date of each next day is the day after: these two settle every date
+-- "Day 0 is Saturday"
+pub weekday-zero : weekday 0 ≡ 5
+weekday-zero = refl
+
+-- "1 January 2000", and the date of each next day is the day after: these two settle every date
 pub date-zero : dateOf 0 ≡ date 2000 1 1
 unfolding dateOf dateFrom yearOf monthLength
 date-zero = refl

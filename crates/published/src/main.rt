@@ -3,13 +3,18 @@
 //
 // - 100 lines: Easter Sunday of a year, as `Easter 2000-04-23`;
 // - 1,200 lines: a month, the number of its working days, and the day of the month of its 10th, 11th, 14th and 16th;
-// - 99 lines: a thermal year, the numbers of its first and its last day and of the first day of each of its months.
-ghost use Prim.Native.Nat.{_<_};
+// - 99 lines: a thermal year, the numbers of its first and its last day and of the first day of each of its months;
+// - 1,200 lines: a month, then what its days 1 to 31 are found to be, each asked alone: how many exist, are working days, are
+//   in time by the 11th working day of their month, are in time for the month after it, and are followed by the date of the next
+//   number; and the number of the first of the next month, which its last day is asked for.
+ghost use Prim.Native.Nat.{_≤_, _<_};
 use calendar::CalendarDate;
 use calendar::Date;
+use calendar::DayKind;
 use calendar::GasDay;
 use calendar::Span;
 use calendar::Tally;
+use calendar::Timeliness;
 use libc::STDOUT_FILENO;
 
 fn print_number(n: u64) {
@@ -115,9 +120,128 @@ fn print_thermal_year(year: u16) {
     end_line();
 }
 
-// The lines in their order: the years' Easters, then the months, then the thermal years.
+// What the days of a month are found to be.
+struct Findings {
+    exist: u16,
+    working: u16,
+    in_time: u16,
+    in_time_for_next: u16,
+    followed: u16,
+    next_first: u16,
+}
+
+// A count, one higher where a thing is found. A month has no more than 31 days.
+fn counted(count: u16, found: bool) -> u16 {
+    if !found {
+        return count;
+    }
+    if count < 31 { count + 1 } else { count }
+}
+
+fn is_working(day: u16) -> bool {
+    match calendar::kind_of_day(day) {
+        DayKind::Working => true,
+        DayKind::Off => false,
+        DayKind::OutsideCalendar => false,
+    }
+}
+
+fn is_in_time(t: Timeliness) -> bool {
+    match t {
+        Timeliness::InTime => true,
+        Timeliness::Late => false,
+        Timeliness::OutsideCalendar => false,
+    }
+}
+
+// Whether an arrival is in time for the month after a month of the calendar, which is one of a thermal year.
+fn is_in_time_for_next(arrival: u16, year: u16, month: u8) -> bool
+    requires { ⌜ (1 ≤ year) × (1 ≤ month) × (month ≤ 12) ⌝ }
+{
+    if month < 9 {
+        return is_in_time(calendar::in_time_preceding_month(arrival, year - 1, month + 4, 11));
+    }
+    is_in_time(calendar::in_time_preceding_month(arrival, year, month - 8, 11))
+}
+
+// Whether the date after a date is that of the next number.
+fn is_followed(day: u16, date: Date) -> bool {
+    match calendar::next_date(date) {
+        CalendarDate::On(d) => match calendar::day_of(d) {
+            GasDay::Day(next) => day as u32 + 1 == next as u32,
+            GasDay::OutsideCalendar => false,
+        },
+        CalendarDate::OutsideCalendar => false,
+    }
+}
+
+fn first_after(day: u16) -> u16 {
+    match calendar::next_first(day) {
+        GasDay::Day(first) => first,
+        GasDay::OutsideCalendar => 0,
+    }
+}
+
+// The findings with those of one day more.
+fn with_day(f: Findings, day: u16, date: Date) -> Findings
+    requires { ⌜ (1 ≤ date .year) × (1 ≤ date .month) × (date .month ≤ 12) ⌝ }
+{
+    Findings {
+        exist: counted(f.exist, true),
+        working: counted(f.working, is_working(day)),
+        in_time: counted(f.in_time, is_in_time(calendar::in_time_own_month(day, 11))),
+        in_time_for_next: counted(
+            f.in_time_for_next,
+            is_in_time_for_next(day, date.year, date.month),
+        ),
+        followed: counted(f.followed, is_followed(day, date)),
+        next_first: first_after(day),
+    }
+}
+
+fn found(year: u16, month: u8) -> Findings
+    requires { ⌜ (1 ≤ year) × (1 ≤ month) × (month ≤ 12) ⌝ }
+{
+    let mut f = Findings {
+        exist: 0,
+        working: 0,
+        in_time: 0,
+        in_time_for_next: 0,
+        followed: 0,
+        next_first: 0,
+    };
+    for day in 1..32 {
+        let date = Date {
+            year: year,
+            month: month,
+            day: day,
+        };
+        if let GasDay::Day(n) = calendar::day_of(date) {
+            f = with_day(f, n, date);
+        }
+    }
+    f
+}
+
+fn print_findings(year: u16, month: u8)
+    requires { ⌜ (1 ≤ year) × (1 ≤ month) × (month ≤ 12) ⌝ }
+{
+    let f = found(year, month);
+    io::write_all(STDOUT_FILENO, b"days ");
+    print_number(year as u64);
+    print_two_digits(month);
+    print_field(f.exist as u64);
+    print_field(f.working as u64);
+    print_field(f.in_time as u64);
+    print_field(f.in_time_for_next as u64);
+    print_field(f.followed as u64);
+    print_field(f.next_first as u64);
+    end_line();
+}
+
+// The lines in their order.
 fn print_line(line: u16)
-    requires { ⌜ line < 1399 ⌝ }
+    requires { ⌜ line < 2599 ⌝ }
 {
     if line < 100 {
         print_easter(2000 + line);
@@ -128,11 +252,16 @@ fn print_line(line: u16)
         print_month(2000 + month / 12, (1 + month % 12) as u8);
         return;
     }
-    print_thermal_year(2000 + (line - 1300));
+    if line < 1399 {
+        print_thermal_year(2000 + (line - 1300));
+        return;
+    }
+    let month = line - 1399;
+    print_findings(2000 + month / 12, (1 + month % 12) as u8);
 }
 
 fn main() {
-    for line in 0..1399 {
+    for line in 0..2599 {
         print_line(line);
     }
 }

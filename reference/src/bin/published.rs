@@ -4,12 +4,17 @@
 //! - for each month, `YYYY-MM`, the number of its working days and the day of
 //!   the month of its 10th, 11th, 14th and 16th working day;
 //! - `thermal`, the year, the numbers of its first and last day, and the number
-//!   of the first day of each of its months, for each thermal year.
+//!   of the first day of each of its months, for each thermal year;
+//! - `days`, a month, how many of its days there are, are working days, are in
+//!   time by the 11th working day of the month, are in time by the 11th for the
+//!   month after it, and have a day after them; and the number of the first of
+//!   the next month, 0 where there is none.
 
 use std::io::{self, BufWriter, Write};
 
 use reference::calendar::{
-    easter, thermal_month, thermal_year, working_days, THERMAL_YEARS, YEARS,
+    easter, is_working_day, own_deadline, preceding_deadline, thermal_month, thermal_year,
+    working_days, Date, THERMAL_YEARS, YEARS,
 };
 
 /// The working days whose dates are printed, counted from 1.
@@ -25,7 +30,8 @@ fn write_all_lines(out: &mut impl Write) -> io::Result<()> {
     let easters = YEARS.map(easter_line);
     let months = YEARS.flat_map(|year| (1..=12).map(move |month| month_line(year, month)));
     let thermal_years = THERMAL_YEARS.map(thermal_line);
-    for line in easters.chain(months).chain(thermal_years) {
+    let days = YEARS.flat_map(|year| (1..=12).map(move |month| days_line(year, month)));
+    for line in easters.chain(months).chain(thermal_years).chain(days) {
         let line = line.ok_or_else(|| io::Error::other("a date is missing from the calendar"))?;
         writeln!(out, "{line}")?;
     }
@@ -52,4 +58,36 @@ fn thermal_line(year: u16) -> Option<String> {
         line += &format!(" {}", thermal_month(year, month)?.0);
     }
     Some(line)
+}
+
+/// The working day that ends the term of annual and of monthly requests.
+const REQUEST_DEADLINE: usize = 11;
+
+fn days_line(year: u16, month: u8) -> Option<String> {
+    let dates: Vec<Date> = (1..=31)
+        .filter_map(|day| Date::new(year, month, day))
+        .collect();
+    let next = preceded_by(year, month);
+    let next_deadline = preceding_deadline(next.0, next.1, REQUEST_DEADLINE);
+    let count = |test: &dyn Fn(Date) -> bool| dates.iter().filter(|&&date| test(date)).count();
+
+    let working = count(&is_working_day);
+    let in_time =
+        count(&|date| own_deadline(date, REQUEST_DEADLINE).is_some_and(|last| date <= last));
+    let in_time_for_next = count(&|date| next_deadline.is_some_and(|last| date <= last));
+    let followed = count(&|date| Date::from_day_number(date.day_number() + 1).is_some());
+    let next_first = dates.last()?.first_of_next_month();
+    let next_first = next_first.map_or(0, Date::day_number);
+    let exist = dates.len();
+    Some(format!(
+        "days {year:04}-{month:02} {exist} {working} {in_time} {in_time_for_next} {followed} {next_first}"
+    ))
+}
+
+/// The thermal year and its month that a month of the calendar comes before.
+fn preceded_by(year: u16, month: u8) -> (u16, u8) {
+    match month {
+        9..=12 => (year, month - 8),
+        _ => (year - 1, month + 4),
+    }
 }

@@ -5,10 +5,10 @@ use Rattle.published.proofs.main.Statement.{statement}
 use Rattle.published.proofs.main.Tie as tie
 
 abbrev Inv-loop : tie.InvT-loop
-Inv-loop line₀ line = line ≤ 1399
+Inv-loop line₀ line = line ≤ 2599
 
 abbrev μ-loop : tie.MeasureT-loop
-μ-loop line₀ line = 1399 - line
+μ-loop line₀ line = 2599 - line
 
 loop-holds : tie.Need-loop-holds Inv-loop μ-loop
 loop-holds c = search needs
