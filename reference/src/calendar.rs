@@ -1,20 +1,20 @@
 //! The calendar: gas-days, working days and thermal years.
 //!
-//! The rules are those of the scope paper, section "Gas-days and working days".
-//! How they are computed is chosen to differ from the paper's own formulas where
+//! The rules are those of document 01, section "Gas-days and working days".
+//! How they are computed is chosen to differ from that paper's own formulas where
 //! it gives any, so that agreement between two implementations means something.
 
 use std::fmt;
 use std::ops::RangeInclusive;
 
-/// The years of the calendar. Scope paper: it begins with 1 January 2000 and
+/// The years of the calendar. Document 01: it begins with 1 January 2000 and
 /// ends with 31 December 2099.
 pub const YEARS: RangeInclusive<u16> = 2000..=2099;
 
-/// The thermal years that lie wholly in the calendar. Scope paper: 2000 to 2098.
+/// The thermal years that lie wholly in the calendar. Document 01: 2000 to 2098.
 pub const THERMAL_YEARS: RangeInclusive<u16> = 2000..=2098;
 
-/// The number of the last day, 31 December 2099. Scope paper: 36,524.
+/// The number of the last day, 31 December 2099. Document 01: 36,524.
 pub const LAST_DAY: u32 = 36_524;
 
 /// Days from 1 March of the year 0 to 1 January 2000, which is day 0.
@@ -23,7 +23,7 @@ const DAYS_BEFORE_DAY_0: u32 = 730_425;
 /// Days in an era, the 400 years after which the Gregorian calendar repeats.
 const DAYS_PER_ERA: u32 = 146_097;
 
-/// Holidays on a fixed date, as month and day. Scope paper: 1 and 6 January,
+/// Holidays on a fixed date, as month and day. Document 01: 1 and 6 January,
 /// 25 April, 1 May, 2 June, 15 August, 1 November, 8, 25 and 26 December.
 const FIXED_HOLIDAYS: [(u8, u8); 10] = [
     (1, 1),
@@ -82,7 +82,7 @@ impl Date {
         self.day
     }
 
-    /// The number of this gas-day. Scope paper: day 0 is 1 January 2000.
+    /// The number of this gas-day. Document 01: day 0 is 1 January 2000.
     ///
     /// Days are counted by the "days from civil" method: years are taken to
     /// begin on 1 March, so that a leap day is the last day of its year, and are
@@ -132,7 +132,7 @@ impl Date {
     }
 
     /// The first day of the month after this date's month; `None` for a date in
-    /// December 2099. Scope paper: the calendar ends with that month.
+    /// December 2099. Document 01: the calendar ends with that month.
     pub fn first_of_next_month(self) -> Option<Date> {
         match self.month {
             12 => Date::new(self.year + 1, 1, 1),
@@ -155,7 +155,7 @@ impl fmt::Display for Date {
     }
 }
 
-/// Whether a year is leap, by the full Gregorian rule. Scope paper: every fourth
+/// Whether a year is leap, by the full Gregorian rule. Document 01: every fourth
 /// year from 2000 is leap, which is the same in 2000 to 2099.
 pub fn is_leap_year(year: u16) -> bool {
     year.is_multiple_of(4) && (!year.is_multiple_of(100) || year.is_multiple_of(400))
@@ -174,7 +174,7 @@ fn days_in_month(year: u16, month: u8) -> Option<u8> {
 
 /// Easter Sunday of a year; `None` outside the calendar.
 ///
-/// The scope paper gives Gauss's rule. This is the anonymous Gregorian computus
+/// Document 01 gives Gauss's rule. This is the anonymous Gregorian computus
 /// (Meeus/Jones/Butcher) instead, which holds for every Gregorian year without
 /// exceptions; the letters are those it is customarily printed with.
 pub fn easter(year: u16) -> Option<Date> {
@@ -200,12 +200,12 @@ fn is_easter_monday(date: Date) -> bool {
     easter(date.year).is_some_and(|sunday| sunday.day_number() + 1 == date.day_number())
 }
 
-/// Whether a date is a holiday. Scope paper: the fixed dates and Easter Monday.
+/// Whether a date is a holiday. Document 01: the fixed dates and Easter Monday.
 fn is_holiday(date: Date) -> bool {
     FIXED_HOLIDAYS.contains(&(date.month, date.day)) || is_easter_monday(date)
 }
 
-/// Whether a date is a working day. Scope paper: Monday to Friday and no
+/// Whether a date is a working day. Document 01: Monday to Friday and no
 /// holiday.
 pub fn is_working_day(date: Date) -> bool {
     let weekend = matches!(date.weekday(), Weekday::Saturday | Weekday::Sunday);
@@ -231,7 +231,7 @@ pub fn nth_working_day(year: u16, month: u8, n: usize) -> Option<Date> {
 }
 
 /// The numbers of the first and the last day of a thermal year; `None` outside
-/// [`THERMAL_YEARS`]. Scope paper: thermal year Y runs from 1 October Y to
+/// [`THERMAL_YEARS`]. Document 01: thermal year Y runs from 1 October Y to
 /// 30 September Y+1.
 pub fn thermal_year(year: u16) -> Option<(u32, u32)> {
     if !THERMAL_YEARS.contains(&year) {
@@ -243,32 +243,31 @@ pub fn thermal_year(year: u16) -> Option<(u32, u32)> {
 }
 
 /// The numbers of the first and the last day of a month of a thermal year;
-/// `None` if there is no such month or thermal year. Scope paper: month 1 is
+/// `None` if there is no such month or thermal year. Document 01: month 1 is
 /// October, month 12 September.
 pub fn thermal_month(year: u16, month: u8) -> Option<(u32, u32)> {
-    if !THERMAL_YEARS.contains(&year) {
+    if !(1..=12).contains(&month) {
         return None;
     }
-    let (year, month) = match month {
-        1..=3 => (year, month + 9),
-        4..=12 => (year + 1, month - 3),
-        _ => return None,
-    };
-    let first = Date::new(year, month, 1)?;
-    let last = Date::new(year, month, days_in_month(year, month)?)?;
-    Some((first.day_number(), last.day_number()))
+    let (first_of_year, _) = thermal_year(year)?;
+    let mut first = Date::from_day_number(first_of_year)?;
+    for _ in 1..month {
+        first = first.first_of_next_month()?;
+    }
+    let next = first.first_of_next_month()?;
+    Some((first.day_number(), next.day_number() - 1))
 }
 
-/// The `n`-th working day of the month of a date. Scope paper, question 9: an
+/// The `n`-th working day of the month of a date. Document 01, question 9: an
 /// annual request is in time up to the 11th, a cession up to the 16th, that day
 /// included.
 pub fn own_deadline(arrival: Date, n: usize) -> Option<Date> {
     nth_working_day(arrival.year, arrival.month, n)
 }
 
-/// The `n`-th working day of the month before a month of a thermal year. Scope
-/// paper, question 9: a monthly request is in time up to the 11th, that day
-/// included.
+/// The `n`-th working day of the month before a month of a thermal year.
+/// Document 01, question 9: a monthly request is in time up to the 11th, that
+/// day included.
 pub fn preceding_deadline(year: u16, month: u8, n: usize) -> Option<Date> {
     let (first, _) = thermal_month(year, month)?;
     let day_before = Date::from_day_number(first.checked_sub(1)?)?;

@@ -1,6 +1,7 @@
 //! An independent implementation of the capacity register's rules.
 //!
 //! It is written from the rules alone and exists to be compared with the proved
-//! register, with which it shares no code and no algorithm.
+//! register. The two share no code, and what can be computed in more than one
+//! way is computed another way here.
 
 pub mod calendar;

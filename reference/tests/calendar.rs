@@ -1,4 +1,4 @@
-//! The calendar against published dates and the cases of the scope paper.
+//! The calendar against published dates and the cases of document 01.
 
 use reference::calendar::*;
 
@@ -33,7 +33,7 @@ fn easter_is_as_published() {
 }
 
 #[test]
-fn easter_of_the_papers_cases() {
+fn easter_of_the_proved_cases() {
     assert_eq!(easter(2024), Some(date(2024, 3, 31)));
     assert_eq!(easter(2049), Some(date(2049, 4, 18)));
     assert_eq!(easter(2076), Some(date(2076, 4, 19)));
@@ -146,7 +146,7 @@ fn other_days_from_monday_to_friday_are_working_days() {
 }
 
 #[test]
-fn working_days_of_the_papers_cases() {
+fn working_days_of_the_proved_cases() {
     assert_eq!(nth_working_day(2023, 10, 11), Some(date(2023, 10, 16)));
     assert_eq!(nth_working_day(2024, 4, 11), Some(date(2024, 4, 16)));
     assert_eq!(working_days(2023, 12).unwrap().len(), 18);

@@ -2,7 +2,7 @@
 -- Assumes nothing.
 use mathlib.Core.Path.{_≡_, refl}
 use Rattle.calendar.specs.Days.{monthLength, daysBefore, monthStart, dayNumber, weekday}
-use Rattle.calendar.specs.WorkingDays.{gaussA, gaussB, gaussC, gaussD, gaussE, weekEarlier, easterOffset, easterSunday, fixedHoliday, workingFrom, workingDays, workingCount, nthOfMonth}
+use Rattle.calendar.specs.WorkingDays.{gaussA, gaussB, gaussC, gaussD, gaussE, easterOffset, easterSunday, fixedHoliday, workingFrom, workingDays, workingCount, nthOfMonth}
 
 pub record Cases : Type 0 where
   -- 1 October 2023 is day 8,674, a Sunday
@@ -20,7 +20,7 @@ pub record Cases : Type 0 where
   pub p7-sixteenth : nthOfMonth 2023 12 16 ≡ 27
 
 pub cases : Cases
-unfolding monthLength daysBefore monthStart gaussA gaussB gaussC gaussD gaussE weekEarlier easterOffset fixedHoliday workingFrom workingDays nthOfMonth
+unfolding monthLength daysBefore monthStart gaussA gaussB gaussC gaussD gaussE easterOffset fixedHoliday workingFrom workingDays nthOfMonth
 cases =
     record {
       p1 = refl;

@@ -1,4 +1,4 @@
--- Laws of the first of the next month, and of the working days that end a term.
+-- Laws of the first of the next month, and of the working days that are deadlines.
 -- Assumes nothing.
 use Prim.Native.Nat.{ℕ, _+_, _-_, _≤_, _<_}
 use mathlib.Core.Bool.{Bool, true, false, cond}
@@ -6,13 +6,13 @@ use mathlib.Core.Path.{_≡_, refl, sym, ap, _∙_}
 use native.Mathlib.Omega.{arith}
 use lib.Dec.{ltb, leb}
 use borrow.Author.Tests.{ltb-true, ltb-false, lt-ltb, le-ltb, leb-true, leb-false}
-use Rattle.calendar.specs.Days.{lastDay, monthLength, yearStart, daysBefore, monthStart, date, dateFrom, yearOf, dateOf, yearAfter, monthAfter, yearBefore, monthBefore}
-use Rattle.calendar.specs.ThermalYears.{calendarYear, calendarMonth, thermalMonthFirst}
+use Rattle.calendar.specs.Days.{lastDay, monthLength, daysBefore, monthStart, dayNumber, date, dateFrom, yearOf, dateOf, yearAfter, monthAfter, yearBefore, monthBefore}
+use Rattle.calendar.specs.ThermalYears.{thermalFirst, thermalLast, calendarYear, calendarMonth, thermalMonthFirst}
 use Rattle.calendar.specs.Deadlines.{nextFirst, ownDeadline, precedingDeadline}
 use Rattle.calendar.proofs.Ranges.{Within, Month, ThermalMonth, Valid, le-cond}
 use Rattle.calendar.proofs.DateLaws.{day-date, date-valid, date-year-last, month-least, month-most, month-next, month-mono, month-after, month-of, january, year-end}
 use Rattle.calendar.proofs.WorkingDayLaws.{NthWorkingDay, nth-working-day}
-use Rattle.calendar.proofs.ThermalYearLaws.{from-january, calendar-month}
+use Rattle.calendar.proofs.ThermalYearLaws.{thermal-next, from-january, calendar-month}
 
 -- the month of a day of the calendar
 pub own-month : (a : ℕ) → a ≤ lastDay → Month (dateOf a .year) (dateOf a .month)
@@ -104,6 +104,23 @@ next-mono a b h =
     (after-month (dateOf b .month))
     (omega (arith, before-next b))
 
+-- from a month on, it is the first of the month after that month or a later one
+next-from : (y m a : ℕ) → 2000 ≤ y → Within 1 12 m → monthStart y m ≤ a → monthStart (yearAfter y m) (monthAfter m) ≤ nextFirst a
+next-from y m a h w l =
+    omega (arith, next-of y m (monthStart y m) h w (omega arith) (omega (arith, month-least y m)), next-mono (monthStart y m) a l)
+
+-- for an arrival from 1 September Y on it lies in thermal year Y or after it, and in it exactly for an arrival before 1 September Y+1
+pub next-not-before : (y a : ℕ) → 2000 ≤ y → dayNumber y 9 1 ≤ a → thermalFirst y ≤ nextFirst a
+next-not-before y a h l = omega (arith, next-from y 9 a h (record { from = omega arith; to = omega arith }) (omega arith))
+
+pub next-within : (y a : ℕ) → 2000 ≤ y → a < dayNumber (y + 1) 9 1 → nextFirst a ≤ thermalLast y
+next-within y a h l =
+    omega (arith, next-least a (y + 1) 9 (omega arith) (record { from = omega arith; to = omega arith }) (omega arith))
+
+pub next-beyond : (y a : ℕ) → 2000 ≤ y → dayNumber (y + 1) 9 1 ≤ a → thermalLast y < nextFirst a
+next-beyond y a h l =
+    omega (arith, thermal-next y, next-from (y + 1) 9 a (omega arith) (record { from = omega arith; to = omega arith }) (omega arith))
+
 -- it lies in the calendar exactly for the days up to 30 November 2099, day 36,493
 last-month-first : monthStart 2099 12 ≡ 36494
 unfolding monthStart daysBefore monthLength
@@ -172,7 +189,7 @@ before-next-month y m h l = go (ltb 1 m) refl l
     go false e l =
         let q : m ≡ 1 = omega (arith, ltb-false 1 m e) in
         let p : y - 1 + 1 ≡ y = omega arith in
-        rw q (omega (arith, month-next (y - 1) 12 (omega arith), year-end (y - 1) l, january y, ap (λ (x : ℕ). yearStart x) p))
+        rw q (sym (month-after (y - 1) 12 l (omega arith) (omega arith)) ∙ ap (λ (x : ℕ). monthStart x 1) p)
 
 -- the n-th working day of the month before month k lies in that month, so before month k, and is a working day
 pub preceding-deadline : (y k n : ℕ) → ThermalMonth y k → Within 1 18 n → NthWorkingDay (yearBefore (calendarYear y k) (calendarMonth k)) (monthBefore (calendarMonth k)) (precedingDeadline y k n)

@@ -9,7 +9,7 @@ use borrow.Author.Tests.{leb-true, leb-false, le-leb, lt-leb}
 use Rattle.calendar.specs.Days.{lastDay, leap, monthLength, daysBefore, yearStart, monthStart}
 use Rattle.calendar.specs.ThermalYears.{thermalFirst, thermalLast, calendarYear, calendarMonth, thermalMonthFirst, thermalMonthLast}
 use Rattle.calendar.proofs.Ranges.{Within, Month, ThermalMonth, le-cond}
-use Rattle.calendar.proofs.DateLaws.{month-least, month-next, month-mono, january, year-end, year-next}
+use Rattle.calendar.proofs.DateLaws.{month-least, month-next, month-mono, month-after, january, year-end, year-next}
 
 september : (y : ℕ) → monthLength y 9 ≡ 30
 unfolding monthLength
@@ -89,7 +89,7 @@ month-days y k = omega (arith, month-least (calendarYear y k) (calendarMonth k))
 
 turn : (y : ℕ) → 2000 ≤ y → monthStart (calendarYear y 4) (calendarMonth 4) ≡ thermalMonthFirst y 3 + monthLength (calendarYear y 3) (calendarMonth 3)
 unfolding thermalMonthFirst calendarYear calendarMonth
-turn y h = omega (arith, january (y + 1), year-end y h, month-next y 12 (omega arith))
+turn y h = month-after y 12 h (omega arith) (omega arith)
 
 pub next-month : (y k : ℕ) → 2000 ≤ y → 1 ≤ k → k < 12 → thermalMonthFirst y (k + 1) ≡ thermalMonthLast y k + 1
 unfolding thermalMonthFirst
@@ -110,3 +110,20 @@ next-month y k h a b = go (leb k 2) refl (leb k 3) refl
         let j : 3 < k + 1 = omega arith in
         let e : k + 1 - 3 ≡ k - 3 + 1 = omega arith in
         rw (month-days y k, from-january y k i .0, from-january y k i .1, from-january y (k + 1) j .0, from-january y (k + 1) j .1, e) (month-next (y + 1) (k - 3) (omega arith))
+
+-- a month of a thermal year lies in it
+pub month-from : (y k : ℕ) → ThermalMonth y k → thermalFirst y ≤ thermalMonthFirst y k
+unfolding thermalMonthFirst
+month-from y k w =
+    by-half (λ (x m : ℕ). thermalFirst y ≤ monthStart x m) y k
+    (λ h. omega (arith, month-mono y 10 (k + 9) (omega arith) (omega (arith, w .month .from))))
+    (λ h. omega (arith, month-mono y 10 13 (omega arith) (omega arith), year-end y (w .year .from), january (y + 1), month-mono (y + 1) 1 (k - 3) (omega arith) (omega arith)))
+
+pub month-to : (y k : ℕ) → ThermalMonth y k → thermalMonthLast y k ≤ thermalLast y
+unfolding thermalMonthFirst
+month-to y k w =
+    let e : monthStart (calendarYear y k) (calendarMonth k) + monthLength (calendarYear y k) (calendarMonth k) ≤ thermalLast y + 1 =
+    by-half (λ (x m : ℕ). monthStart x m + monthLength x m ≤ thermalLast y + 1) y k
+    (λ h. omega (arith, thermal-next y, month-next y (k + 9) (omega arith), month-mono y (k + 9 + 1) 13 (omega arith) (omega arith), year-end y (w .year .from), january (y + 1), month-mono (y + 1) 1 10 (omega arith) (omega arith)))
+    (λ h. omega (arith, thermal-next y, month-next (y + 1) (k - 3) (omega arith), month-mono (y + 1) (k - 3 + 1) 10 (omega arith) (omega (arith, w .month .to)))) in
+    omega (arith, e, month-days y k)

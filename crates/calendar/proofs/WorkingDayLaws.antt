@@ -18,7 +18,7 @@ use Rattle.calendar.proofs.DateLaws.{month-least, month-next, month-mon
 -- Easter is at most 35 days after 22 March
 pub easter-near : (y : ℕ) → easterOffset y ≤ 35
 unfolding easterOffset gaussA gaussB gaussC gaussD gaussE
-easter-near y = cond-le (weekEarlier y) _ _ 35 (omega arith) (omega arith)
+easter-near y = cond-le (weekEarlier (gaussA y) (gaussD y) (gaussE y)) _ _ 35 (omega arith) (omega arith)
 
 -- Easter and the day after it lie in the calendar
 pub easter-last : (y : ℕ) → Within 2000 2099 y → easterSunday y + 1 ≤ lastDay
@@ -30,7 +30,7 @@ sunday : ℕ → Bool
 sunday i = eqb (weekday (easterSunday (2000 + i))) 6
 
 all-sundays : T (every sunday 100)
-unfolding sunday monthLength daysBefore monthStart gaussA gaussB gaussC gaussD gaussE weekEarlier easterOffset
+unfolding sunday monthLength daysBefore monthStart gaussA gaussB gaussC gaussD gaussE easterOffset
 all-sundays = tt
 
 pub easter-sunday : (y : ℕ) → Within 2000 2099 y → weekday (easterSunday y) ≡ 6
@@ -44,7 +44,7 @@ enough : ℕ → Bool
 enough i = leb 18 (workingCount (2000 + i / 12) (1 + i % 12))
 
 all-enough : T (every enough 1200)
-unfolding enough monthLength daysBefore monthStart gaussA gaussB gaussC gaussD gaussE weekEarlier easterOffset fixedHoliday workingFrom workingDays
+unfolding enough monthLength daysBefore monthStart gaussA gaussB gaussC gaussD gaussE easterOffset fixedHoliday workingFrom workingDays
 all-enough = tt
 
 -- "Every month has at least 18 working days; this is shown, not tested for at run time."

@@ -11,12 +11,12 @@ use Rattle.calendar.specs.declared.dates.CalendarDate.{CalendarDate}
 use Rattle.calendar.specs.declared.dates.CalendarDate.the-variants.{On, OutsideCalendar as NoDate}
 use Rattle.calendar.specs.declared.thermal_years.Span.{Span}
 use Rattle.calendar.specs.declared.thermal_years.Span.the-variants.{Days, OutsideCalendar as NoSpan}
-use Rattle.calendar.specs.declared.working_days.DayKind.{DayKind}
-use Rattle.calendar.specs.declared.working_days.DayKind.the-variants.{Working, Off, OutsideCalendar as NoKind}
-use Rattle.calendar.specs.declared.working_days.Tally.{Tally}
-use Rattle.calendar.specs.declared.working_days.Tally.the-variants.{Count, OutsideCalendar as NoTally}
+use Rattle.calendar.specs.declared.working_days.DayType.{DayType}
+use Rattle.calendar.specs.declared.working_days.DayType.the-variants.{Working, NonWorking, OutsideCalendar as NoType}
+use Rattle.calendar.specs.declared.working_days.DayCount.{DayCount}
+use Rattle.calendar.specs.declared.working_days.DayCount.the-variants.{Count, OutsideCalendar as NoCount}
 use Rattle.calendar.specs.declared.deadlines.Timeliness.{Timeliness}
-use Rattle.calendar.specs.declared.deadlines.Timeliness.the-variants.{InTime, Late, OutsideCalendar as NoTerm}
+use Rattle.calendar.specs.declared.deadlines.Timeliness.the-variants.{InTime, Late, OutsideCalendar as NoDeadline}
 use Rattle.calendar.specs.Days.{between, inCalendar, isYear, isMonth, isDate, monthLength, monthStart, dayNumber, dateOf, dayOf, dayAfter, movesOn}
 use Rattle.calendar.specs.ThermalYears.{isThermalYear, isThermalMonth, thermalFirst, thermalLast, thermalMonthFirst, thermalMonthLast}
 use Rattle.calendar.specs.WorkingDays.{easterSunday, workingDay, workingCount, nthWorkingDay}
@@ -34,6 +34,16 @@ dayAnswer d = cond (isDate d) (Day (dayOf d)) NoDay
 unfoldable pub nextDateAnswer : Date → CalendarDate
 nextDateAnswer d = cond (movesOn d) (On (dayAfter d)) NoDate
 
+-- what that answer means for a date lent by the host: the number, "with the answer 0 [..] are left, with the answer 2", and the
+-- date that the record holds afterwards
+abbrev pub moveNumber : CalendarDate → ℕ
+moveNumber (On e) = 0
+moveNumber NoDate = 2
+
+abbrev pub movedDate : Date → CalendarDate → Date
+movedDate d (On e) = e
+movedDate d NoDate = d
+
 -- the day with a number, where the calendar has it
 unfoldable pub dayIn : ℕ → GasDay
 dayIn n = cond (inCalendar n) (Day n) NoDay
@@ -48,12 +58,12 @@ unfoldable pub easterAnswer : ℕ → GasDay
 easterAnswer y = cond (isYear y) (Day (easterSunday y)) NoDay
 
 -- whether a day is a working day
-unfoldable pub kindAnswer : ℕ → DayKind
-kindAnswer n = cond (inCalendar n) (cond (workingDay n) Working Off) NoKind
+unfoldable pub typeAnswer : ℕ → DayType
+typeAnswer n = cond (inCalendar n) (cond (workingDay n) Working NonWorking) NoType
 
 -- how many working days a month has
-unfoldable pub countAnswer : ℕ → ℕ → Tally
-countAnswer y m = cond (isMonth y m) (Count (workingCount y m)) NoTally
+unfoldable pub countAnswer : ℕ → ℕ → DayCount
+countAnswer y m = cond (isMonth y m) (Count (workingCount y m)) NoCount
 
 -- the 1st to the 18th working day of a month
 unfoldable pub nthAnswer : ℕ → ℕ → ℕ → GasDay
@@ -76,18 +86,18 @@ monthAnswer y k =
 unfoldable pub precedingDay : ℕ → ℕ → ℕ → GasDay
 precedingDay y k n = cond (isThermalMonth y k && between 1 18 n) (Day (precedingDeadline y k n)) NoDay
 
--- whether an arrival is in time for a term that ends with a day
+-- whether an arrival is in time for a deadline
 abbrev pub timely : ℕ → GasDay → Timeliness
 timely a (Day d) = cond (leb a d) InTime Late
-timely a NoDay = NoTerm
+timely a NoDay = NoDeadline
 
 -- whether an arrival is in time by the n-th working day of its own month
 unfoldable pub ownAnswer : ℕ → ℕ → Timeliness
-ownAnswer a n = cond (inCalendar a && between 1 18 n) (cond (inTimeOwn a n) InTime Late) NoTerm
+ownAnswer a n = cond (inCalendar a && between 1 18 n) (cond (inTimeOwn a n) InTime Late) NoDeadline
 
 -- and by the n-th working day of the month before month k of thermal year Y
 unfoldable pub precedingAnswer : ℕ → ℕ → ℕ → ℕ → Timeliness
 precedingAnswer a y k n =
     cond (inCalendar a && (isThermalMonth y k && between 1 18 n))
     (cond (inTimePreceding a y k n) InTime Late)
-    NoTerm
+    NoDeadline

@@ -1,5 +1,5 @@
--- Document 01, "The changing calls" and question 9: the first of the month after a day, and the working days that end a
--- term. The calls above say which of them is theirs.
+-- Document 01, "The changing calls" and question 9: the first of the month after a day, and the working days that are deadlines.
+-- Which n is whose, the 11th for requests and the 16th for cessions, is said where these calls are defined.
 -- Assumes nothing.
 use Prim.Native.Nat.{ℕ}
 use mathlib.Core.Bool.{Bool}

@@ -26,14 +26,13 @@ unfoldable pub gaussE : ℕ → ℕ
 gaussE y = (2 * gaussB y + 4 * gaussC y + 6 * gaussD y + 5) % 7
 
 -- "a week earlier where d = 29 and e = 6, or d = 28, e = 6 and a > 10"
-unfoldable pub weekEarlier : ℕ → Bool
-weekEarlier y =
-    (eqb (gaussD y) 29 && eqb (gaussE y) 6)
-    || (eqb (gaussD y) 28 && (eqb (gaussE y) 6 && ltb 10 (gaussA y)))
+abbrev pub weekEarlier : ℕ → ℕ → ℕ → Bool
+weekEarlier a d e = (eqb d 29 && eqb e 6) || (eqb d 28 && (eqb e 6 && ltb 10 a))
 
 -- "Easter is d + e days after 22 March, but a week earlier where" the above holds: how many days after 22 March
 unfoldable pub easterOffset : ℕ → ℕ
-easterOffset y = cond (weekEarlier y) (gaussD y + gaussE y - 7) (gaussD y + gaussE y)
+easterOffset y =
+    cond (weekEarlier (gaussA y) (gaussD y) (gaussE y)) (gaussD y + gaussE y - 7) (gaussD y + gaussE y)
 
 -- the number of Easter Sunday of year y
 abbrev pub easterSunday : ℕ → ℕ

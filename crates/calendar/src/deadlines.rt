@@ -36,11 +36,11 @@ pub fn next_first(day: u16) -> GasDay
     in_calendar(month_start(d.year + 1, 1))
 }
 
-// Whether an arrival is in time for a term that ends with the day given: that day itself is in time.
-fn in_time_by(arrival: u16, last: GasDay) -> Timeliness
-    ensures { λ r. ⌜ r ≡ timely arrival last ⌝ }
+// Whether an arrival is in time for a deadline: the day itself is in time.
+fn in_time_by(arrival: u16, deadline: GasDay) -> Timeliness
+    ensures { λ r. ⌜ r ≡ timely arrival deadline ⌝ }
 {
-    match last {
+    match deadline {
         GasDay::Day(day) => {
             if arrival <= day {
                 Timeliness::InTime

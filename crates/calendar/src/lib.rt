@@ -1,5 +1,5 @@
 // The calendar of the register: gas-days from 1 January 2000, day 0, to 31 December 2099, day 36,524, working days and
-// holidays, thermal years and the terms that end on a working day.
+// holidays, thermal years and the deadlines that are working days.
 //
 // No function that another crate can name has a `requires`. Input outside the calendar is answered with the case
 // `OutsideCalendar`. The meaning of each answer is in specs/, and proofs/ has the laws that callers cite.
@@ -21,9 +21,9 @@ pub use deadlines::next_first;
 pub use thermal_years::Span;
 pub use thermal_years::thermal_month;
 pub use thermal_years::thermal_year;
-pub use working_days::DayKind;
-pub use working_days::Tally;
+pub use working_days::DayCount;
+pub use working_days::DayType;
+pub use working_days::day_type;
 pub use working_days::easter;
-pub use working_days::kind_of_day;
 pub use working_days::nth_working_day;
 pub use working_days::working_days_of;

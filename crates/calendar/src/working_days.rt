@@ -1,11 +1,10 @@
 // Easter, holidays and working days.
 ghost use mathlib.Core.Path.{_≡_};
 ghost use Prim.Native.Nat.{_≤_, _<_, _^_};
-ghost use mathlib.Core.Bool.{not, _&&_, _||_};
-ghost use lib.Dec.{ltb, eqb};
-ghost use Rattle.calendar.specs.Days.{weekday};
-ghost use Rattle.calendar.specs.WorkingDays.{easterOffset, easterSunday, easterMonday, fixedHoliday, workingCount, nthOfMonth};
-ghost use Rattle.calendar.specs.Answers.{easterAnswer, kindAnswer, countAnswer, nthAnswer};
+ghost use Rattle.calendar.specs.Days.{dayOf};
+ghost use Rattle.calendar.specs.WorkingDays.{weekEarlier, easterOffset, easterSunday, easterMonday, fixedHoliday, working, workingCount, nthOfMonth};
+ghost use Rattle.calendar.specs.Answers.{easterAnswer, typeAnswer, countAnswer, nthAnswer};
+use crate::dates::Date;
 use crate::dates::GasDay;
 use crate::dates::LAST_DAY;
 use crate::dates::date_at;
@@ -15,16 +14,23 @@ use crate::dates::is_year;
 use crate::dates::month_length;
 use crate::dates::month_start;
 
-pub enum DayKind {
+pub enum DayType {
     Working,
-    Off,
+    NonWorking,
     OutsideCalendar,
 }
 
 // A number of days.
-pub enum Tally {
+pub enum DayCount {
     Count(u8),
     OutsideCalendar,
+}
+
+// The two exceptions of Gauss's rule, in which Easter is a week earlier.
+fn is_week_earlier(a: u32, d: u32, e: u32) -> bool
+    ensures { λ r. ⌜ r ≡ weekEarlier a d e ⌝ }
+{
+    (d == 29) & (e == 6) | (d == 28) & ((e == 6) & (10 < a))
 }
 
 // How many days after 22 March Easter Sunday is, by Gauss's rule.
@@ -35,7 +41,7 @@ fn easter_offset(year: u16) -> u8
     let a = y % 19;
     let d = (19 * a + 24) % 30;
     let e = (2 * (y % 4) + 4 * (y % 7) + 6 * d + 5) % 7;
-    if (d == 29) & (e == 6) | (d == 28) & ((e == 6) & (10 < a)) {
+    if is_week_earlier(a, d, e) {
         return (d + e - 7) as u8;
     }
     (d + e) as u8
@@ -70,13 +76,13 @@ fn is_fixed_holiday(month: u8, day: u8) -> bool
     }
 }
 
-// Whether the day with this number, which is this day of this month, is a working day. The caller gives Easter Monday, which it
-// finds once for a month.
-fn is_working(number: u32, monday: u32, month: u8, day: u8) -> bool
-    requires { ⌜ number < 2 ^ 28 ⌝ }
-    ensures { λ r. ⌜ r ≡ (ltb (weekday number) 5 && not (fixedHoliday month day || eqb number monday)) ⌝ }
+// Whether a date is a working day. The caller gives the date's number and the year's Easter Monday, so that a walk through a month finds
+// the month's first day and Easter once.
+fn is_working(date: Date, number: u32, easter_monday: u32) -> bool
+    requires { ⌜ (number ≡ dayOf date) × (number < 2 ^ 28) × («easter_monday» ≡ easterMonday (date .year)) ⌝ }
+    ensures { λ r. ⌜ r ≡ working (date .year) (date .month) (date .day) ⌝ }
 {
-    let holiday = is_fixed_holiday(month, day) | (number == monday);
+    let holiday = is_fixed_holiday(date.month, date.day) | (number == easter_monday);
     ((number + 5) % 7 < 5) & !holiday
 }
 
@@ -91,17 +97,17 @@ pub fn easter(year: u16) -> GasDay
 }
 
 // Whether a gas-day is a working day.
-pub fn kind_of_day(day: u16) -> DayKind
-    ensures { λ r. ⌜ r ≡ kindAnswer day ⌝ }
+pub fn day_type(day: u16) -> DayType
+    ensures { λ r. ⌜ r ≡ typeAnswer day ⌝ }
 {
     if LAST_DAY < day {
-        return DayKind::OutsideCalendar;
+        return DayType::OutsideCalendar;
     }
     let d = date_at(day);
-    if is_working(day as u32, easter_monday(d.year), d.month, d.day) {
-        return DayKind::Working;
+    if is_working(d, day as u32, easter_monday(d.year)) {
+        return DayType::Working;
     }
-    DayKind::Off
+    DayType::NonWorking
 }
 
 // How many working days a month has.
@@ -114,7 +120,12 @@ fn count_of_month(year: u16, month: u8) -> u8
     let mut day: u8 = 1;
     let mut count: u8 = 0;
     while day <= len {
-        if is_working(first + (day as u32 - 1), monday, month, day) {
+        let date = Date {
+            year: year,
+            month: month,
+            day: day,
+        };
+        if is_working(date, first + (day as u32 - 1), monday) {
             count += 1;
         }
         day += 1;
@@ -122,13 +133,13 @@ fn count_of_month(year: u16, month: u8) -> u8
     count
 }
 
-pub fn working_days_of(year: u16, month: u8) -> Tally
+pub fn working_days_of(year: u16, month: u8) -> DayCount
     ensures { λ r. ⌜ r ≡ countAnswer year month ⌝ }
 {
     if is_month(year, month) {
-        return Tally::Count(count_of_month(year, month));
+        return DayCount::Count(count_of_month(year, month));
     }
-    Tally::OutsideCalendar
+    DayCount::OutsideCalendar
 }
 
 // The n-th working day of a month that has so many, by its day of the month. No test for the month's end: each month of the
@@ -142,7 +153,12 @@ fn nth_of_month(year: u16, month: u8, n: u8) -> u8
     let mut day: u8 = 1;
     let mut left = n;
     loop {
-        if is_working(first + (day as u32 - 1), monday, month, day) {
+        let date = Date {
+            year: year,
+            month: month,
+            day: day,
+        };
+        if is_working(date, first + (day as u32 - 1), monday) {
             if left == 1 {
                 return day;
             }

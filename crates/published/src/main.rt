@@ -3,17 +3,18 @@
 //
 // - 100 lines: Easter Sunday of a year, as `Easter 2000-04-23`;
 // - 1,200 lines: a month, the number of its working days, and the day of the month of its 10th, 11th, 14th and 16th;
-// - 99 lines: a thermal year, the numbers of its first and its last day and of the first day of each of its months;
-// - 1,200 lines: a month, then what its days 1 to 31 are found to be, each asked alone: how many exist, are working days, are
-//   in time by the 11th working day of their month, are in time for the month after it, and are followed by the date of the next
-//   number; and the number of the first of the next month, which its last day is asked for.
+// - 99 lines: a thermal year, and the numbers of its first and its last day and of those of each of its months;
+// - 1,200 lines: a month, then how many of its days 1 to 31, each asked alone, exist (the date of the day's number is the date), are
+//   working days, are in time by the 11th working day of their month, are late by it, are in time for the month after it (none where
+//   that is no month of a thermal year), and are followed by the date of the next number; and the number of the first of the next
+//   month, which its last day is asked for (0 in December 2099).
 ghost use Prim.Native.Nat.{_≤_, _<_};
 use calendar::CalendarDate;
 use calendar::Date;
-use calendar::DayKind;
+use calendar::DayCount;
+use calendar::DayType;
 use calendar::GasDay;
 use calendar::Span;
-use calendar::Tally;
 use calendar::Timeliness;
 use libc::STDOUT_FILENO;
 
@@ -70,8 +71,8 @@ fn print_easter(year: u16) {
 
 fn print_count(year: u16, month: u8) {
     match calendar::working_days_of(year, month) {
-        Tally::Count(n) => print_field(n as u64),
-        Tally::OutsideCalendar => print_outside(),
+        DayCount::Count(n) => print_field(n as u64),
+        DayCount::OutsideCalendar => print_outside(),
     }
 }
 
@@ -93,38 +94,36 @@ fn print_month(year: u16, month: u8) {
     end_line();
 }
 
-fn print_month_first(year: u16, month: u8) {
-    match calendar::thermal_month(year, month) {
-        Span::Days(first, _) => print_field(first as u64),
-        Span::OutsideCalendar => print_outside(),
-    }
-}
-
-fn print_month_firsts(year: u16) {
-    for month in 1..13 {
-        print_month_first(year, month);
-    }
-}
-
-fn print_thermal_year(year: u16) {
-    io::write_all(STDOUT_FILENO, b"thermal");
-    print_field(year as u64);
-    match calendar::thermal_year(year) {
+fn print_span(s: Span) {
+    match s {
         Span::Days(first, last) => {
             print_field(first as u64);
             print_field(last as u64);
         }
         Span::OutsideCalendar => print_outside(),
     }
-    print_month_firsts(year);
+}
+
+fn print_thermal_months(year: u16) {
+    for month in 1..13 {
+        print_span(calendar::thermal_month(year, month));
+    }
+}
+
+fn print_thermal_year(year: u16) {
+    io::write_all(STDOUT_FILENO, b"thermal");
+    print_field(year as u64);
+    print_span(calendar::thermal_year(year));
+    print_thermal_months(year);
     end_line();
 }
 
-// What the days of a month are found to be.
+// How many days of a month are found to be what, and the first of the next month.
 struct Findings {
     exist: u16,
     working: u16,
     in_time: u16,
+    late: u16,
     in_time_for_next: u16,
     followed: u16,
     next_first: u16,
@@ -139,10 +138,10 @@ fn counted(count: u16, found: bool) -> u16 {
 }
 
 fn is_working(day: u16) -> bool {
-    match calendar::kind_of_day(day) {
-        DayKind::Working => true,
-        DayKind::Off => false,
-        DayKind::OutsideCalendar => false,
+    match calendar::day_type(day) {
+        DayType::Working => true,
+        DayType::NonWorking => false,
+        DayType::OutsideCalendar => false,
     }
 }
 
@@ -150,6 +149,14 @@ fn is_in_time(t: Timeliness) -> bool {
     match t {
         Timeliness::InTime => true,
         Timeliness::Late => false,
+        Timeliness::OutsideCalendar => false,
+    }
+}
+
+fn is_late(t: Timeliness) -> bool {
+    match t {
+        Timeliness::InTime => false,
+        Timeliness::Late => true,
         Timeliness::OutsideCalendar => false,
     }
 }
@@ -162,6 +169,16 @@ fn is_in_time_for_next(arrival: u16, year: u16, month: u8) -> bool
         return is_in_time(calendar::in_time_preceding_month(arrival, year - 1, month + 4, 11));
     }
     is_in_time(calendar::in_time_preceding_month(arrival, year, month - 8, 11))
+}
+
+// Whether the date of a day is the date.
+fn is_date_of(day: u16, date: Date) -> bool {
+    match calendar::date_of(day) {
+        CalendarDate::On(d) => {
+            (d.year == date.year) & ((d.month == date.month) & (d.day == date.day))
+        }
+        CalendarDate::OutsideCalendar => false,
+    }
 }
 
 // Whether the date after a date is that of the next number.
@@ -187,9 +204,10 @@ fn with_day(f: Findings, day: u16, date: Date) -> Findings
     requires { ⌜ (1 ≤ date .year) × (1 ≤ date .month) × (date .month ≤ 12) ⌝ }
 {
     Findings {
-        exist: counted(f.exist, true),
+        exist: counted(f.exist, is_date_of(day, date)),
         working: counted(f.working, is_working(day)),
         in_time: counted(f.in_time, is_in_time(calendar::in_time_own_month(day, 11))),
+        late: counted(f.late, is_late(calendar::in_time_own_month(day, 11))),
         in_time_for_next: counted(
             f.in_time_for_next,
             is_in_time_for_next(day, date.year, date.month),
@@ -206,6 +224,7 @@ fn found(year: u16, month: u8) -> Findings
         exist: 0,
         working: 0,
         in_time: 0,
+        late: 0,
         in_time_for_next: 0,
         followed: 0,
         next_first: 0,
@@ -233,6 +252,7 @@ fn print_findings(year: u16, month: u8)
     print_field(f.exist as u64);
     print_field(f.working as u64);
     print_field(f.in_time as u64);
+    print_field(f.late as u64);
     print_field(f.in_time_for_next as u64);
     print_field(f.followed as u64);
     print_field(f.next_first as u64);

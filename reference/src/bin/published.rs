@@ -3,12 +3,12 @@
 //! - `Easter YYYY-MM-DD` for each year;
 //! - for each month, `YYYY-MM`, the number of its working days and the day of
 //!   the month of its 10th, 11th, 14th and 16th working day;
-//! - `thermal`, the year, the numbers of its first and last day, and the number
-//!   of the first day of each of its months, for each thermal year;
+//! - `thermal`, the year, the numbers of its first and last day, and those of
+//!   each of its months, for each thermal year;
 //! - `days`, a month, how many of its days there are, are working days, are in
-//!   time by the 11th working day of the month, are in time by the 11th for the
-//!   month after it, and have a day after them; and the number of the first of
-//!   the next month, 0 where there is none.
+//!   time by the 11th working day of the month, are late by it, are in time for
+//!   the month after it, and have a day after them; and the number of the first
+//!   of the next month, 0 where there is none.
 
 use std::io::{self, BufWriter, Write};
 
@@ -55,7 +55,8 @@ fn thermal_line(year: u16) -> Option<String> {
     let (first, last) = thermal_year(year)?;
     let mut line = format!("thermal {year} {first} {last}");
     for month in 1..=12 {
-        line += &format!(" {}", thermal_month(year, month)?.0);
+        let (first, last) = thermal_month(year, month)?;
+        line += &format!(" {first} {last}");
     }
     Some(line)
 }
@@ -67,8 +68,8 @@ fn days_line(year: u16, month: u8) -> Option<String> {
     let dates: Vec<Date> = (1..=31)
         .filter_map(|day| Date::new(year, month, day))
         .collect();
-    let next = preceded_by(year, month);
-    let next_deadline = preceding_deadline(next.0, next.1, REQUEST_DEADLINE);
+    let next_first = dates.last()?.first_of_next_month();
+    let next_deadline = next_first.and_then(deadline_for);
     let count = |test: &dyn Fn(Date) -> bool| dates.iter().filter(|&&date| test(date)).count();
 
     let working = count(&is_working_day);
@@ -76,18 +77,22 @@ fn days_line(year: u16, month: u8) -> Option<String> {
         count(&|date| own_deadline(date, REQUEST_DEADLINE).is_some_and(|last| date <= last));
     let in_time_for_next = count(&|date| next_deadline.is_some_and(|last| date <= last));
     let followed = count(&|date| Date::from_day_number(date.day_number() + 1).is_some());
-    let next_first = dates.last()?.first_of_next_month();
-    let next_first = next_first.map_or(0, Date::day_number);
     let exist = dates.len();
+    let late = exist - in_time;
+    let next_first = next_first.map_or(0, Date::day_number);
     Some(format!(
-        "days {year:04}-{month:02} {exist} {working} {in_time} {in_time_for_next} {followed} {next_first}"
+        "days {year:04}-{month:02} {exist} {working} {in_time} {late} {in_time_for_next} {followed} {next_first}"
     ))
 }
 
-/// The thermal year and its month that a month of the calendar comes before.
-fn preceded_by(year: u16, month: u8) -> (u16, u8) {
-    match month {
-        9..=12 => (year, month - 8),
-        _ => (year - 1, month + 4),
-    }
+/// The deadline of requests for the month of a thermal year that begins on a
+/// date; `None` if none does.
+fn deadline_for(first: Date) -> Option<Date> {
+    let years = THERMAL_YEARS.filter(|year| year.abs_diff(first.year()) <= 1);
+    years
+        .flat_map(|year| (1..=12).map(move |month| (year, month)))
+        .find(|&(year, month)| {
+            thermal_month(year, month).is_some_and(|span| span.0 == first.day_number())
+        })
+        .and_then(|(year, month)| preceding_deadline(year, month, REQUEST_DEADLINE))
 }

@@ -4,20 +4,20 @@ use borrow.Author.Needs.{needs}
 use Rattle.calendar.proofs.deadlines.in_time_by.Statement.{statement}
 use Rattle.calendar.proofs.deadlines.in_time_by.Tie as tie
 
-enum-known-last : tie.Need-enum-known-last
-enum-known-last c = search needs
+enum-known-deadline : tie.Need-enum-known-deadline
+enum-known-deadline c = search needs
 
 enum-told : tie.Need-enum-told
 enum-told c = search needs
 
 returns : tie.Need-returns
-returns c = rw (c .before .before .last .given .1) (simp (le-leb _ _ (c .if1 .taken)))
+returns c = rw (c .before .before .deadline .given .1) (simp (le-leb _ _ (c .if1 .taken)))
 
 returns-2 : tie.Need-returns-2
-returns-2 c = rw (c .before .before .last .given .1) (simp (lt-leb _ _ (c .if1 .left)))
+returns-2 c = rw (c .before .before .deadline .given .1) (simp (lt-leb _ _ (c .if1 .left)))
 
 returns-3 : tie.Need-returns-3
 returns-3 c = search needs
 
 pub in-time-by-spec : {M : Type 1} → statement M
-in-time-by-spec = tie.close (tie.spec enum-known-last enum-told returns returns-2 returns-3)
+in-time-by-spec = tie.close (tie.spec enum-known-deadline enum-told returns returns-2 returns-3)

@@ -8,7 +8,8 @@ use borrow.Author.Tests.{not-true, not-false}
 use Rattle.calendar.specs.ThermalYears.{isThermalMonth}
 use Rattle.calendar.specs.Answers.{precedingDay}
 use Rattle.calendar.proofs.Ranges.{ThermalMonth, thermal-of-test}
-use Rattle.calendar.proofs.AnswerLaws.{preceding-day-early, preceding-day-late}
+use Rattle.calendar.proofs.AnswerLaws.{preceding-day}
+use Rattle.calendar.proofs.DeadlineLaws.{preceding-early, preceding-late}
 use borrow.Author.Needs.{needs}
 use Rattle.calendar.proofs.deadlines.preceding_deadline.Statement.{statement}
 use Rattle.calendar.proofs.deadlines.preceding_deadline.Tie as tie
@@ -36,7 +37,8 @@ returns-2 : tie.Need-returns-2
 returns-2 c =
     let e = c .before .before in
     let s = e .before .before .args in
-    c .nth-working-day .ensures ∙ preceding-day-early (s .year) (s .month) (s .n) (tested e) (limits e) (c .before .if2 .taken)
+    let f = preceding-early (s .year) (s .month) (limits e .month .from) (c .before .if2 .taken) in
+    c .nth-working-day .ensures ∙ preceding-day (s .year) (s .month) (s .n) _ _ (tested e) (f .0) (f .1)
 
 add-nth-working-day-2 : tie.Need-add-nth-working-day-2
 add-nth-working-day-2 c = omega (arith, limits (c .before) .year .to)
@@ -51,7 +53,8 @@ returns-3 : tie.Need-returns-3
 returns-3 c =
     let e = c .before .before in
     let s = e .before .before .args in
-    c .nth-working-day2 .ensures ∙ preceding-day-late (s .year) (s .month) (s .n) (tested e) (limits e) (c .before .if2 .left)
+    let f = preceding-late (s .year) (s .month) (c .before .if2 .left) in
+    c .nth-working-day2 .ensures ∙ preceding-day (s .year) (s .month) (s .n) _ _ (tested e) (f .0) (f .1)
 
 pub preceding-deadline-spec : {M : Type 1} → statement M
 preceding-deadline-spec =

@@ -5,7 +5,7 @@ use Prim.Native.Nat.{_+_, _-_, _<_, _≤_}
 use mathlib.Core.Path.{_≡_, refl, sym, _∙_}
 use mathlib.Core.Logic.{⊎-elim}
 use native.Mathlib.Omega.{arith}
-use Rattle.calendar.specs.WorkingDays.{working, workingDays, workingCount}
+use Rattle.calendar.specs.WorkingDays.{workingDays, workingCount}
 use Rattle.calendar.proofs.DateLaws.{month-most}
 use Rattle.calendar.proofs.WorkingDayLaws.{Counted, counted-pass, counted-next, counted-all}
 use borrow.Author.Needs.{needs}
@@ -44,7 +44,9 @@ add-is-working : tie.Need-add-is-working Inv-loop μ-loop
 add-is-working c = omega arith
 
 is-working-requires : tie.Need-is-working-requires Inv-loop μ-loop
-is-working-requires c κs = omega arith
+is-working-requires c κs =
+    let first = c .before .before .before .before .month-start .ensures .0 in
+    (rw first, omega arith, c .before .before .before .easter-monday .ensures)
 
 -- a month has at most 31 days
 short : (c : tie.After-month-length Inv-loop μ-loop) → c .month-length .result ≤ 31
@@ -59,15 +61,10 @@ add-day c = omega (arith, short (c .before .before .before .before))
 loop-less : tie.Need-loop-less Inv-loop μ-loop
 loop-less c = omega arith
 
--- what `is_working` answers is whether the day is a working day
-answered : (c : tie.After-is-working Inv-loop μ-loop) → c .is-working .result ≡ working (c .before .before .before .before .before .before .args .year) (c .before .before .before .before .before .before .args .month) (c .before .before .loop .day)
-answered c =
-    c .is-working .ensures ∙ rw (c .before .before .before .before .before .month-start .ensures .0, c .before .before .before .before .easter-monday .ensures)
-
 loop-again : tie.Need-loop-again Inv-loop μ-loop
 loop-again c =
     let l = c .before .before .before .loop in
-    let r = answered (c .before) in
+    let r = c .before .is-working .ensures in
     let h : l .day < c .before .before .before .before .month-length .result + 1 = omega arith in
     ⊎-elim (λ w. rw (w .1) (counted-next _ _ _ _ _ _ (l .inv) h (sym r ∙ w .0 .taken)))
     (λ w. rw (w .1) (counted-pass _ _ _ _ _ _ (l .inv) h (sym r ∙ w .0 .left))) (c .if1 .came)

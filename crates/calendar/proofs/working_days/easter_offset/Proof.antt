@@ -1,7 +1,7 @@
 -- `calendar::working_days::easter_offset` meets its contract.
 -- A week can be taken from d + e in the two exceptions, since d is 28 or 29 there.
 -- Assumes nothing.
-use mathlib.Core.Path.{_≡_, refl}
+use mathlib.Core.Path.{_≡_, refl, sym, _∙_}
 use mathlib.Core.Bool.{Bool, true, false, _&&_, _||_}
 use Prim.Native.Nat.{ℕ, _≤_}
 use native.Mathlib.Omega.{arith}
@@ -36,29 +36,37 @@ add-e-2 c = search needs
 add-e-3 : tie.Need-add-e-3
 add-e-3 c = search needs
 
+is-week-earlier-requires : tie.Need-is-week-earlier-requires
+is-week-earlier-requires c κs = search needs
+
 add-result : tie.Need-add-result
 add-result c = search needs
 
-large : (d e a : ℕ) → ((eqb d 29 && eqb e 6) || (eqb d 28 && (eqb e 6 && ltb 10 a))) ≡ true → 7 ≤ d
-large d e a t = go (eqb d 29) (eqb d 28) refl refl t
+-- in an exception d is 28 or 29
+large : (a d e : ℕ) → weekEarlier a d e ≡ true → 7 ≤ d
+large a d e t = go (eqb d 29) (eqb d 28) refl refl t
   where
     go : (p q : Bool) → eqb d 29 ≡ p → eqb d 28 ≡ q → ((p && eqb e 6) || (q && (eqb e 6 && ltb 10 a))) ≡ true → 7 ≤ d
     go true q h k t = omega (arith, eqb-true d 29 h)
     go false true h k t = omega (arith, eqb-true d 28 k)
     go false false h k t = let z : _≡_ {A = ℕ} 0 1 = cc in omega arith
 
+earlier : (c : tie.Then1) → weekEarlier (gaussA (c .before .before .args .year)) (gaussD (c .before .before .args .year)) (gaussE (c .before .before .args .year)) ≡ true
+unfolding gaussA gaussB gaussC gaussD gaussE
+earlier c = sym (c .before .is-week-earlier .ensures) ∙ c .if1 .taken
+
 sub-result : tie.Need-sub-result
 unfolding gaussA gaussB gaussC gaussD gaussE
 sub-result c =
-    let y = c .before .args .year in
-    omega (arith, large (gaussD y) (gaussE y) (gaussA y) (c .if1 .taken))
+    let y = c .before .before .args .year in
+    omega (arith, large (gaussA y) (gaussD y) (gaussE y) (earlier c))
 
 cast-result : tie.Need-cast-result
 cast-result c = search needs
 
 returns : tie.Need-returns
-unfolding easterOffset weekEarlier gaussA gaussB gaussC gaussD gaussE
-returns c = rw (c .if1 .taken)
+unfolding easterOffset gaussA gaussB gaussC gaussD gaussE
+returns c = rw (earlier c)
 
 add-result-2 : tie.Need-add-result-2
 add-result-2 c = search needs
@@ -67,8 +75,8 @@ cast-result-2 : tie.Need-cast-result-2
 cast-result-2 c = search needs
 
 returns-2 : tie.Need-returns-2
-unfolding easterOffset weekEarlier gaussA gaussB gaussC gaussD gaussE
-returns-2 c = rw (c .if1 .left)
+unfolding easterOffset gaussA gaussB gaussC gaussD gaussE
+returns-2 c = rw (sym (c .before .is-week-earlier .ensures) ∙ c .if1 .left)
 
 pub easter-offset-spec : {M : Type 1} → statement M
 easter-offset-spec =
@@ -82,6 +90,7 @@ easter-offset-spec =
     mul-e-3
     add-e-2
     add-e-3
+    is-week-earlier-requires
     add-result
     sub-result
     cast-result

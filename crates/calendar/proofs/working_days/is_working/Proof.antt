@@ -10,7 +10,7 @@ add-result : tie.Need-add-result
 add-result c = search needs
 
 returns : tie.Need-returns
-returns c = rw (c .is-fixed-holiday .ensures)
+returns c = let p = c .before .pre in rw (c .is-fixed-holiday .ensures, p .0, p .2)
 
 pub is-working-spec : {M : Type 1} → statement M
 is-working-spec = tie.close (tie.spec is-fixed-holiday-requires add-result returns)

@@ -7,7 +7,7 @@ use mathlib.Core.Path.{_≡_, refl, sym, _∙_}
 use mathlib.Core.Logic.{⊎-elim}
 use native.Mathlib.Omega.{arith}
 use Rattle.calendar.specs.Days.{monthLength}
-use Rattle.calendar.specs.WorkingDays.{working, workingDays, nthOfMonth}
+use Rattle.calendar.specs.WorkingDays.{workingDays, nthOfMonth}
 use Rattle.calendar.proofs.DateLaws.{month-most}
 use Rattle.calendar.proofs.WorkingDayLaws.{Sought, sought-left, sought-here, sought-pass, sought-next}
 use borrow.Author.Needs.{needs}
@@ -51,17 +51,14 @@ add-is-working : tie.Need-add-is-working Inv-loop μ-loop
 add-is-working c = omega (arith, small c)
 
 is-working-requires : tie.Need-is-working-requires Inv-loop μ-loop
-is-working-requires c κs = omega (arith, small c)
-
--- what `is_working` answers is whether the day is a working day
-answered : (c : tie.After-is-working Inv-loop μ-loop) → c .is-working .result ≡ working (c .before .before .before .before .args .year) (c .before .before .before .before .args .month) (c .before .loop .day)
-answered c =
-    c .is-working .ensures ∙ rw (c .before .before .before .month-start .ensures .0, c .before .before .easter-monday .ensures)
+is-working-requires c κs =
+    let first = c .before .before .month-start .ensures .0 in
+    (rw first, omega (arith, small c), c .before .easter-monday .ensures)
 
 returns : tie.Need-returns Inv-loop μ-loop
 returns c =
     let l = c .before .before .before .loop in
-    sought-here _ _ _ _ _ _ (l .inv .1) (sym (answered (c .before .before)) ∙ c .before .if1 .taken) (c .if2 .taken)
+    sought-here _ _ _ _ _ _ (l .inv .1) (sym (c .before .before .is-working .ensures) ∙ c .before .if1 .taken) (c .if2 .taken)
 
 sub-left : tie.Need-sub-left Inv-loop μ-loop
 sub-left c = search needs
@@ -75,7 +72,7 @@ loop-less c = omega (arith, sought-left _ _ _ _ _ _ (c .before .before .loop .in
 loop-again : tie.Need-loop-again Inv-loop μ-loop
 loop-again c =
     let l = c .before .before .loop in
-    let r = answered (c .before) in (
+    let r = c .before .is-working .ensures in (
       omega arith,
       ⊎-elim (λ w. rw (w .2) (sought-next _ _ _ _ _ _ (l .inv .1) (sym r ∙ w .0 .taken) (w .1 .left)))
           (λ w. rw (w .1) (sought-pass _ _ _ _ _ _ (l .inv .1) (sym r ∙ w .0 .left))) (c .if1 .came),
