@@ -112,16 +112,16 @@ next-month y k h a b = go (leb k 2) refl (leb k 3) refl
         rw (month-days y k, from-january y k i .0, from-january y k i .1, from-january y (k + 1) j .0, from-january y (k + 1) j .1, e) (month-next (y + 1) (k - 3) (omega arith))
 
 -- a month of a thermal year lies in it
-pub month-from : (y k : ℕ) → ThermalMonth y k → thermalFirst y ≤ thermalMonthFirst y k
+pub thermal-month-from : (y k : ℕ) → ThermalMonth y k → thermalFirst y ≤ thermalMonthFirst y k
 unfolding thermalMonthFirst
-month-from y k w =
+thermal-month-from y k w =
     by-half (λ (x m : ℕ). thermalFirst y ≤ monthStart x m) y k
     (λ h. omega (arith, month-mono y 10 (k + 9) (omega arith) (omega (arith, w .month .from))))
     (λ h. omega (arith, month-mono y 10 13 (omega arith) (omega arith), year-end y (w .year .from), january (y + 1), month-mono (y + 1) 1 (k - 3) (omega arith) (omega arith)))
 
-pub month-to : (y k : ℕ) → ThermalMonth y k → thermalMonthLast y k ≤ thermalLast y
+pub thermal-month-to : (y k : ℕ) → ThermalMonth y k → thermalMonthLast y k ≤ thermalLast y
 unfolding thermalMonthFirst
-month-to y k w =
+thermal-month-to y k w =
     let e : monthStart (calendarYear y k) (calendarMonth k) + monthLength (calendarYear y k) (calendarMonth k) ≤ thermalLast y + 1 =
     by-half (λ (x m : ℕ). monthStart x m + monthLength x m ≤ thermalLast y + 1) y k
     (λ h. omega (arith, thermal-next y, month-next y (k + 9) (omega arith), month-mono y (k + 9 + 1) 13 (omega arith) (omega arith), year-end y (w .year .from), january (y + 1), month-mono (y + 1) 1 10 (omega arith) (omega arith)))

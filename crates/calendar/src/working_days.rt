@@ -14,6 +14,7 @@ use crate::dates::is_year;
 use crate::dates::month_length;
 use crate::dates::month_start;
 
+// Whether a gas-day is a working day.
 pub enum DayType {
     Working,
     NonWorking,
@@ -110,7 +111,7 @@ pub fn day_type(day: u16) -> DayType
     DayType::NonWorking
 }
 
-// How many working days a month has.
+// The number of working days of a month, also of one outside the calendar.
 fn count_of_month(year: u16, month: u8) -> u8
     ensures { λ r. ⌜ r ≡ workingCount year month ⌝ }
 {
@@ -133,6 +134,7 @@ fn count_of_month(year: u16, month: u8) -> u8
     count
 }
 
+// How many working days a month has.
 pub fn working_days_of(year: u16, month: u8) -> DayCount
     ensures { λ r. ⌜ r ≡ countAnswer year month ⌝ }
 {
