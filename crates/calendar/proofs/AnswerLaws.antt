@@ -1,6 +1,6 @@
 -- Laws of the answers: what a moved date is, and how the answer on an arrival is put together from its deadline.
 -- Assumes nothing.
-use Prim.Native.Nat.{ℕ, _-_, _≤_, _<_}
+use Prim.Native.Nat.{ℕ, _≤_, _<_}
 use mathlib.Core.Bool.{Bool, true, false, cond, _&&_}
 use mathlib.Core.Path.{_≡_, refl}
 use lib.Dec.{leb}
@@ -13,7 +13,7 @@ use Rattle.calendar.specs.Days.{lastDay, between, isMonth, dateOf, yearB
 use Rattle.calendar.specs.ThermalYears.{isThermalMonth, calendarYear, calendarMonth}
 use Rattle.calendar.specs.Deadlines.{ownDeadline, precedingDeadline}
 use Rattle.calendar.specs.Answers.{nextDateAnswer, moveNumber, movedDate, nthAnswer, precedingDay, timely, ownAnswer, precedingAnswer}
-use Rattle.calendar.proofs.Ranges.{thermal-of-test, is-month}
+use Rattle.calendar.proofs.Ranges.{month-of-test, is-month}
 use Rattle.calendar.proofs.DeadlineLaws.{own-month, preceding-month}
 
 -- an arrival is compared with a deadline that a test lets stand
@@ -44,7 +44,7 @@ preceding-outside a y k n h = rw (lt-leb a lastDay h)
 pub preceding-day : (y k n x m : ℕ) → isThermalMonth y k ≡ true → yearBefore (calendarYear y k) (calendarMonth k) ≡ x → monthBefore (calendarMonth k) ≡ m → nthAnswer x m n ≡ precedingDay y k n
 unfolding nthAnswer precedingDay precedingDeadline
 preceding-day y k n x m t p q =
-    let w : isMonth x m ≡ true = rw (p, q) at (is-month _ _ (preceding-month y k (thermal-of-test y k t))) in
+    let w : isMonth x m ≡ true = rw (p, q) at (is-month _ _ (preceding-month y k (month-of-test 2098 y k t))) in
     rw (t, p, q, w)
 
 -- "moved on by one gas-day [..] with the answer 0; 31 December 2099, a date outside the calendar and one that doesn't exist are left,

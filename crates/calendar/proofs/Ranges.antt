@@ -7,7 +7,6 @@ use lib.Dec.{leb}
 use borrow.Author.Tests.{leb-true, le-leb}
 use Rattle.calendar.specs.declared.dates.Date.{Date}
 use Rattle.calendar.specs.Days.{between, isYear, isMonth, monthLength, isDate}
-use Rattle.calendar.specs.ThermalYears.{isThermalYear, isThermalMonth}
 
 pub and-left : (a b : Bool) → (a && b) ≡ true → a ≡ true
 and-left a b h = and-eq-true-iff a b .0 h .0
@@ -42,16 +41,23 @@ within lo hi x h =
 pub is-between : (lo hi x : ℕ) → lo ≤ x → x ≤ hi → between lo hi x ≡ true
 is-between lo hi x p q = both (leb lo x) (leb x hi) (le-leb lo x p) (le-leb x hi q)
 
--- a month of the calendar
-pub record Month (y m : ℕ) : Type 0 where
-  pub year : Within 2000 2099 y
+-- a month of a year from 2000 to a last one
+pub record MonthUpTo (last y m : ℕ) : Type 0 where
+  pub year : Within 2000 last y
   pub month : Within 1 12 m
 
-pub month-of-test : (y m : ℕ) → isMonth y m ≡ true → Month y m
-month-of-test y m h =
+-- a month of the calendar, and of a thermal year
+abbrev pub Month : ℕ → ℕ → Type 0
+Month y m = MonthUpTo 2099 y m
+
+abbrev pub ThermalMonth : ℕ → ℕ → Type 0
+ThermalMonth y k = MonthUpTo 2098 y k
+
+pub month-of-test : (last y m : ℕ) → (between 2000 last y && between 1 12 m) ≡ true → MonthUpTo last y m
+month-of-test last y m h =
     record {
-      year = within 2000 2099 y (and-left (isYear y) (between 1 12 m) h);
-      month = within 1 12 m (and-right (isYear y) (between 1 12 m) h);
+      year = within 2000 last y (and-left (between 2000 last y) (between 1 12 m) h);
+      month = within 1 12 m (and-right (between 2000 last y) (between 1 12 m) h);
     }
 
 pub is-month : (y m : ℕ) → Month y m → isMonth y m ≡ true
@@ -59,18 +65,6 @@ is-month y m w =
     both (isYear y) (between 1 12 m)
     (is-between 2000 2099 y (w .year .from) (w .year .to))
     (is-between 1 12 m (w .month .from) (w .month .to))
-
--- a month of a thermal year
-pub record ThermalMonth (y k : ℕ) : Type 0 where
-  pub year : Within 2000 2098 y
-  pub month : Within 1 12 k
-
-pub thermal-of-test : (y k : ℕ) → isThermalMonth y k ≡ true → ThermalMonth y k
-thermal-of-test y k h =
-    record {
-      year = within 2000 2098 y (and-left (isThermalYear y) (between 1 12 k) h);
-      month = within 1 12 k (and-right (isThermalYear y) (between 1 12 k) h);
-    }
 
 -- a date that exists, in a year of the calendar or later
 pub record Valid (d : Date) : Type 0 where

@@ -1,5 +1,5 @@
 // Prints what the calendar answers for all of its years, months and thermal years. What it must print, `stdout`, is written by
-// another implementation (reference/), which shares nothing with the calendar.
+// another implementation (reference/), which shares no code with the calendar.
 //
 // - 100 lines: Easter Sunday of a year, as `Easter 2000-04-23`;
 // - 1,200 lines: a month, the number of its working days, and the day of the month of its 10th, 11th, 14th and 16th;

@@ -20,6 +20,9 @@ use reference::calendar::{
 /// The working days whose dates are printed, counted from 1.
 const PRINTED_WORKING_DAYS: [usize; 4] = [10, 11, 14, 16];
 
+/// The working day that is the deadline of annual and of monthly requests.
+const REQUEST_DEADLINE: usize = 11;
+
 fn main() -> io::Result<()> {
     let mut out = BufWriter::new(io::stdout().lock());
     write_all_lines(&mut out)?;
@@ -60,9 +63,6 @@ fn thermal_line(year: u16) -> Option<String> {
     }
     Some(line)
 }
-
-/// The working day that ends the term of annual and of monthly requests.
-const REQUEST_DEADLINE: usize = 11;
 
 fn days_line(year: u16, month: u8) -> Option<String> {
     let dates: Vec<Date> = (1..=31)

@@ -1,4 +1,3 @@
-use Prim.Native.Nat.{_-_}
 use Rattle.calendar.specs.Days.{monthStart}
 use borrow.Author.Needs.{needs}
 use Rattle.calendar.proofs.dates.month_start.Statement.{statement}

@@ -1,5 +1,7 @@
 use mathlib.Core.Path.{refl}
+use native.Mathlib.Omega.{arith}
 use borrow.Author.Tests.{le-leb, lt-leb}
+use Rattle.calendar.specs.Days.{lastDay}
 use Rattle.calendar.specs.Answers.{dayIn}
 use borrow.Author.Needs.{needs}
 use Rattle.calendar.proofs.deadlines.in_calendar.Statement.{statement}
@@ -13,11 +15,11 @@ cast-t4 c = search needs
 
 returns : tie.Need-returns
 unfolding dayIn
-returns c = simp (le-leb _ _ (c .if1 .taken))
+returns c = rw (le-leb (c .before .args .number) lastDay (omega arith))
 
 returns-2 : tie.Need-returns-2
 unfolding dayIn
-returns-2 c = simp (lt-leb _ _ (c .if1 .left))
+returns-2 c = rw (lt-leb (c .before .args .number) lastDay (omega arith))
 
 pub in-calendar-spec : {M : Type 1} → statement M
 in-calendar-spec = tie.close (tie.spec cast-if1 cast-t4 returns returns-2)

@@ -1,4 +1,5 @@
 use mathlib.Core.Path.{refl}
+use native.Mathlib.Omega.{arith}
 use borrow.Author.Tests.{le-leb, lt-leb}
 use borrow.Author.Needs.{needs}
 use Rattle.calendar.proofs.deadlines.in_time_by.Statement.{statement}
@@ -11,10 +12,14 @@ enum-told : tie.Need-enum-told
 enum-told c = search needs
 
 returns : tie.Need-returns
-returns c = rw (c .before .before .deadline .given .1) (simp (le-leb _ _ (c .if1 .taken)))
+returns c =
+    let d = c .before .before .deadline .given in
+    rw (d .1, le-leb (c .before .before .before .before .args .arrival) (d .0 .0) (omega arith))
 
 returns-2 : tie.Need-returns-2
-returns-2 c = rw (c .before .before .deadline .given .1) (simp (lt-leb _ _ (c .if1 .left)))
+returns-2 c =
+    let d = c .before .before .deadline .given in
+    rw (d .1, lt-leb (c .before .before .before .before .args .arrival) (d .0 .0) (omega arith))
 
 returns-3 : tie.Need-returns-3
 returns-3 c = search needs

@@ -1,4 +1,5 @@
 use mathlib.Core.Path.{_∙_, ap}
+use native.Mathlib.Omega.{arith}
 use Rattle.calendar.specs.Answers.{timely}
 use Rattle.calendar.proofs.AnswerLaws.{preceding-answer, preceding-outside}
 use borrow.Author.Needs.{needs}
@@ -8,7 +9,7 @@ use Rattle.calendar.proofs.deadlines.in_time_preceding_month.Tie as tie
 returns : tie.Need-returns
 returns c =
     let s = c .before .args in
-    preceding-outside (s .arrival) (s .year) (s .month) (s .n) (c .if1 .taken)
+    preceding-outside (s .arrival) (s .year) (s .month) (s .n) (omega arith)
 
 preceding-deadline-requires : tie.Need-preceding-deadline-requires
 preceding-deadline-requires c κs = search needs
@@ -21,7 +22,7 @@ returns-2 c =
     let s = c .before .before .before .args in
     c .in-time-by .ensures
     ∙ (ap (timely (s .arrival)) (c .before .preceding-deadline .ensures)
-    ∙ preceding-answer (s .arrival) (s .year) (s .month) (s .n) (c .before .before .if1 .left))
+    ∙ preceding-answer (s .arrival) (s .year) (s .month) (s .n) (omega arith))
 
 pub in-time-preceding-month-spec : {M : Type 1} → statement M
 in-time-preceding-month-spec =

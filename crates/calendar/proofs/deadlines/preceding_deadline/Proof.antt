@@ -7,7 +7,7 @@ use native.Mathlib.Omega.{arith}
 use borrow.Author.Tests.{not-true, not-false}
 use Rattle.calendar.specs.ThermalYears.{isThermalMonth}
 use Rattle.calendar.specs.Answers.{precedingDay}
-use Rattle.calendar.proofs.Ranges.{ThermalMonth, thermal-of-test}
+use Rattle.calendar.proofs.Ranges.{ThermalMonth, month-of-test}
 use Rattle.calendar.proofs.AnswerLaws.{preceding-day}
 use Rattle.calendar.proofs.DeadlineLaws.{preceding-early, preceding-late}
 use borrow.Author.Needs.{needs}
@@ -25,7 +25,7 @@ tested : (c : tie.Else1) → isThermalMonth (c .before .before .args .year) (c .
 tested c = sym (c .before .is-thermal-month .ensures) ∙ not-false _ (c .if1 .left)
 
 limits : (c : tie.Else1) → ThermalMonth (c .before .before .args .year) (c .before .before .args .month)
-limits c = let s = c .before .before .args in thermal-of-test (s .year) (s .month) (tested c)
+limits c = let s = c .before .before .args in month-of-test 2098 (s .year) (s .month) (tested c)
 
 add-nth-working-day : tie.Need-add-nth-working-day
 add-nth-working-day c = search needs

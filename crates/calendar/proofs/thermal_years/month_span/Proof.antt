@@ -27,7 +27,7 @@ tested c = sym (c .before .is-month .ensures) ∙ c .if1 .taken
 
 -- the month ends in the calendar
 ends : (c : tie.Then1) → monthStart (c .before .before .args .year) (c .before .before .args .month) + monthLength (c .before .before .args .year) (c .before .before .args .month) ≤ lastDay + 1
-ends c = let a = c .before .before .args in month-in (a .year) (a .month) (month-of-test (a .year) (a .month) (tested c))
+ends c = let a = c .before .before .args in month-in (a .year) (a .month) (month-of-test 2099 (a .year) (a .month) (tested c))
 
 -- and has a day
 some : (c : tie.After-month-length) → 28 ≤ c .month-length .result

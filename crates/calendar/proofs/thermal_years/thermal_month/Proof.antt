@@ -7,7 +7,7 @@ use native.Mathlib.Omega.{arith}
 use borrow.Author.Tests.{not-true, not-false}
 use Rattle.calendar.specs.ThermalYears.{isThermalMonth, thermalMonthFirst, thermalMonthLast, calendarYear, calendarMonth}
 use Rattle.calendar.specs.Answers.{spanOfMonth, monthAnswer}
-use Rattle.calendar.proofs.Ranges.{thermal-of-test, is-month}
+use Rattle.calendar.proofs.Ranges.{month-of-test, is-month}
 use Rattle.calendar.proofs.ThermalYearLaws.{autumn, from-january, calendar-month}
 use borrow.Author.Needs.{needs}
 use Rattle.calendar.proofs.thermal_years.thermal_month.Statement.{statement}
@@ -29,7 +29,7 @@ unfolding spanOfMonth monthAnswer thermalMonthFirst thermalMonthLast
 answer c =
     let y = c .before .before .args .year in
     let k = c .before .before .args .month in
-    rw (tested c, is-month (calendarYear y k) (calendarMonth k) (calendar-month y k (thermal-of-test y k (tested c))))
+    rw (tested c, is-month (calendarYear y k) (calendarMonth k) (calendar-month y k (month-of-test 2098 y k (tested c))))
 
 add-month-span : tie.Need-add-month-span
 add-month-span c = search needs
@@ -46,7 +46,7 @@ returns-2 c =
 add-month-span-2 : tie.Need-add-month-span-2
 add-month-span-2 c =
     let a = c .before .before .before .args in
-    omega (arith, thermal-of-test (a .year) (a .month) (tested (c .before)) .year .to)
+    omega (arith, month-of-test 2098 (a .year) (a .month) (tested (c .before)) .year .to)
 
 sub-month-span : tie.Need-sub-month-span
 sub-month-span c = search needs

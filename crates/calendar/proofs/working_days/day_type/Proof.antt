@@ -1,6 +1,7 @@
 use mathlib.Core.Path.{_≡_, refl, sym, _∙_}
 use native.Mathlib.Omega.{arith}
 use borrow.Author.Tests.{le-leb, lt-leb}
+use Rattle.calendar.specs.Days.{lastDay}
 use Rattle.calendar.specs.WorkingDays.{workingDay}
 use Rattle.calendar.specs.Answers.{typeAnswer}
 use Rattle.calendar.proofs.DateLaws.{day-date}
@@ -10,7 +11,7 @@ use Rattle.calendar.proofs.working_days.day_type.Tie as tie
 
 returns : tie.Need-returns
 unfolding typeAnswer
-returns c = simp (lt-leb _ _ (c .if1 .taken))
+returns c = rw (lt-leb (c .before .args .day) lastDay (omega arith))
 
 date-at-requires : tie.Need-date-at-requires
 date-at-requires c κs = search needs
@@ -30,12 +31,12 @@ answered c = rw (c .is-working .ensures, c .before .before .date-at .ensures)
 returns-2 : tie.Need-returns-2
 unfolding typeAnswer
 returns-2 c =
-    rw (le-leb _ _ (c .before .before .before .before .if1 .left), sym (answered (c .before)) ∙ c .if2 .taken)
+    rw (le-leb (c .before .before .before .before .before .args .day) lastDay (omega arith), sym (answered (c .before)) ∙ c .if2 .taken)
 
 returns-3 : tie.Need-returns-3
 unfolding typeAnswer
 returns-3 c =
-    rw (le-leb _ _ (c .before .before .before .before .if1 .left), sym (answered (c .before)) ∙ c .if2 .left)
+    rw (le-leb (c .before .before .before .before .before .args .day) lastDay (omega arith), sym (answered (c .before)) ∙ c .if2 .left)
 
 pub day-type-spec : {M : Type 1} → statement M
 day-type-spec =

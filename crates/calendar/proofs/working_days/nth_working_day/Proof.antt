@@ -23,7 +23,7 @@ tested c = rw (← c .before .is-month .ensures) (c .if1 .taken)
 month : (c : tie.Then1) → Month (c .before .before .args .year) (c .before .before .args .month)
 month c =
     let a = c .before .before .args in
-    month-of-test (a .year) (a .month) (and-left (isMonth (a .year) (a .month)) (between 1 18 (a .n)) (tested c))
+    month-of-test 2099 (a .year) (a .month) (and-left (isMonth (a .year) (a .month)) (between 1 18 (a .n)) (tested c))
 
 nth : (c : tie.Then1) → Within 1 18 (c .before .before .args .n)
 nth c =
