@@ -5,4 +5,5 @@ pub mod WorkingDayLaws
 pub mod ThermalYearLaws
 pub mod DeadlineLaws
 pub mod AnswerLaws
+pub mod SpanLaws
 pub mod Cases

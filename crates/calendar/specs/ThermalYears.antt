@@ -1,7 +1,8 @@
 -- Document 01, "Gas-days and working days": thermal years and their months.
 -- Assumes nothing.
 use Prim.Native.Nat.{ℕ, _+_, _-_}
-use mathlib.Core.Bool.{Bool, cond, _&&_}
+use mathlib.Core.Path.{_≡_}
+use mathlib.Core.Bool.{Bool, true, cond, _&&_}
 use lib.Dec.{leb}
 use Rattle.calendar.specs.Days.{between, monthLength, monthStart, dayNumber}
 
@@ -15,6 +16,16 @@ thermalFirst y = dayNumber y 10 1
 
 abbrev pub thermalLast : ℕ → ℕ
 thermalLast y = dayNumber (y + 1) 9 30
+
+-- a gas-day of thermal year Y
+abbrev pub inThermalYear : ℕ → ℕ → Bool
+inThermalYear y d = isThermalYear y && between (thermalFirst y) (thermalLast y) d
+
+-- first and last are the first and the last day of thermal year Y
+pub record YearSpan (y first last : ℕ) : Type 0 where
+  pub year : isThermalYear y ≡ true
+  pub begins : first ≡ thermalFirst y
+  pub ends : last ≡ thermalLast y
 
 -- a month of a thermal year
 abbrev pub isThermalMonth : ℕ → ℕ → Bool

@@ -19,6 +19,8 @@ pub use deadlines::in_time_own_month;
 pub use deadlines::in_time_preceding_month;
 pub use deadlines::next_first;
 pub use thermal_years::Span;
+pub use thermal_years::in_thermal_year;
+pub use thermal_years::is_thermal_year;
 pub use thermal_years::thermal_month;
 pub use thermal_years::thermal_year;
 pub use working_days::DayCount;

@@ -1,6 +1,6 @@
 // Thermal years, from 1 October to 30 September, and their months.
 ghost use mathlib.Core.Path.{_≡_};
-ghost use Rattle.calendar.specs.ThermalYears.{isThermalYear, isThermalMonth};
+ghost use Rattle.calendar.specs.ThermalYears.{isThermalYear, inThermalYear, isThermalMonth};
 ghost use Rattle.calendar.specs.Answers.{spanOfMonth, yearAnswer, monthAnswer};
 use crate::dates::day_number;
 use crate::dates::is_month;
@@ -13,7 +13,8 @@ pub enum Span {
     OutsideCalendar,
 }
 
-fn is_thermal_year(year: u16) -> bool
+// Whether a year is that of a thermal year.
+pub fn is_thermal_year(year: u16) -> bool
     ensures { λ r. ⌜ r ≡ isThermalYear year ⌝ }
 {
     (2000 <= year) & (year <= 2098)
@@ -36,6 +37,17 @@ pub fn thermal_year(year: u16) -> Span
         );
     }
     Span::OutsideCalendar
+}
+
+// Whether a gas-day lies in a thermal year.
+pub fn in_thermal_year(year: u16, day: u16) -> bool
+    ensures { λ r. ⌜ r ≡ inThermalYear year day ⌝ }
+{
+    let span = thermal_year(year);
+    match span {
+        Span::Days(first, last) => (first <= day) & (day <= last),
+        Span::OutsideCalendar => false,
+    }
 }
 
 // The first and the last day of a month of the calendar.
