@@ -1,0 +1,54 @@
+// The capacity register: its parts, question 1 ("is the register in order?"), the fresh register and the report.
+//
+// The register goes in and comes back by value; the free amounts and the ledger are lent. No function that another crate can
+// name has a `requires`. The meaning of each answer is in specs/, and proofs/ has the laws that callers cite.
+mod accounts;
+mod amounts;
+mod answers;
+mod charges;
+mod fresh;
+mod ledger;
+mod limits;
+mod order;
+mod points;
+mod registers;
+mod reports;
+
+pub use accounts::Account;
+pub use accounts::is_on_file;
+pub use amounts::clear;
+pub use amounts::days_of_year;
+pub use amounts::entry_at;
+pub use amounts::free_row;
+pub use amounts::free_table;
+pub use amounts::least_free;
+pub use amounts::take_free;
+pub use answers::Filed;
+pub use answers::Refusal;
+pub use answers::Report;
+pub use answers::Verdict;
+pub use answers::refusal_number;
+pub use answers::report_amount;
+pub use answers::report_number;
+pub use answers::verdict_number;
+pub use charges::charge_of;
+pub use fresh::fresh_register;
+pub use ledger::Line;
+pub use ledger::line_at;
+pub use ledger::write_line;
+pub use limits::LEDGER;
+pub use limits::LINE;
+pub use limits::LINES;
+pub use limits::MOST_AMOUNT;
+pub use limits::MOST_GUARANTEE;
+pub use limits::MOST_RATE;
+pub use limits::MOST_WORD;
+pub use limits::POINTS;
+pub use limits::ROW;
+pub use limits::TABLE;
+pub use limits::USERS;
+pub use order::in_order;
+pub use points::Point;
+pub use points::is_open;
+pub use registers::Register;
+pub use reports::report_free;

@@ -1,0 +1,30 @@
+// Delivery points.
+ghost use mathlib.Core.Path.{_≡_};
+ghost use Rattle.register.specs.Order.{isOpen, pointOk};
+use crate::limits::MOST_AMOUNT;
+use crate::limits::MOST_RATE;
+
+// Kind 0 is closed, 1 direct, 2 thermoelectric. The total is in Sm3 a day; the rate is for each Sm3/day and gas-day, in millionths
+// of a euro.
+#[repr(C)]
+pub struct Point {
+    pub kind: u8,
+    pub total: u32,
+    pub rate: u32,
+}
+
+pub fn is_open(p: Point) -> bool
+    ensures { λ r. ⌜ r ≡ isOpen p ⌝ }
+{
+    0 < p.kind
+}
+
+// Closed with nothing set, or open within the limits. All tests are made, with no branch.
+pub(crate) fn point_in_order(p: Point) -> bool
+    ensures { λ r. ⌜ r ≡ pointOk p ⌝ }
+{
+    (p.kind == 0) & (p.total == 0) & (p.rate == 0)
+        | ((1 <= p.kind) & (p.kind <= 2))
+            & ((1 <= p.total) & (p.total <= MOST_AMOUNT))
+            & (p.rate <= MOST_RATE)
+}
