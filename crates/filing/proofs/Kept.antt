@@ -1,0 +1,193 @@
+-- Each of the three calls, whatever it answers, leaves a sound register sound: sized and in order.
+-- Assumes nothing.
+use mathlib.Core.Path.{_≡_, refl, sym, ap, _∙_, subst}
+use mathlib.Core.Bool.{true}
+use mathlib.Core.Logic.{⊎-elim}
+use mathlib.Core.List.{List}
+use Prim.Native.Nat.{ℕ, _≤_, _<_}
+use native.Mathlib.Decide.{ℕ-discrete}
+use native.Mathlib.Nat.{not-suc-le-zero, zero-add}
+use native.Mathlib.Omega.{arith}
+use lib.ListN.{getD, set, length, length-set, length-replicate}
+use Rattle.register.specs.declared.points.Point.{Point}
+use Rattle.register.specs.declared.accounts.Account.{Account}
+use Rattle.register.specs.Limits.{pointCount, userCount, rowLength, ledgerLength}
+use Rattle.register.specs.Ranges.{replaced}
+use Rattle.register.specs.Registers.{State, pointAt, accountAt, closedPoint, absentUser, point, withCommitment}
+use Rattle.register.specs.Ledger.{lineAt}
+use Rattle.register.specs.Amounts.{yearDays, entryAt, capacity, freedRow}
+use Rattle.register.specs.Order.{pointOk, accountOk}
+use Rattle.register.specs.Sound.{Sound}
+use Rattle.register.proofs.RangeLaws.{replaced-length, replaced-in}
+use Rattle.register.proofs.AmountLaws.{row-length, row-in, row-out, table-length, table-at}
+use Rattle.register.proofs.AnswerLaws.{leaves-either}
+use Rattle.register.proofs.OrderFacts.{InOrder, in-order, open-ok, Absent, OnFile, account-is, absent-ok, on-file-ok}
+use Rattle.register.proofs.OrderKept.{set-keeps, point-same, point-other, line-carry}
+use Rattle.filing.specs.OpenPoint.{openNumber, opened, openAfter}
+use Rattle.filing.specs.PlaceGuarantee.{placeNumber, pledged, placed, placeAfter}
+use Rattle.filing.specs.TurnYear.{turnNumber, settledAt, settledAccounts, turned, turnAfter}
+use Rattle.filing.proofs.OpenLaws.{OpenFacts, facts as open-facts}
+use Rattle.filing.proofs.PlaceLaws.{PlaceFacts, facts as place-facts}
+use Rattle.filing.proofs.TurnLaws.{TurnFacts, facts as turn-facts}
+
+-- ---- open point
+module _ (s : State) (p kind total rate : ℕ) (sound : Sound s) (w : OpenFacts s p kind total rate) where
+  abbrev q : Point
+  q = point kind total rate
+
+  abbrev ps : List Point
+  ps = s .register .points
+
+  abbrev days : ℕ
+  days = yearDays (s .register .year)
+
+  in-points : p < length ps
+  in-points = omega (arith, sound .sized .points, w .point-from)
+
+  abbrev Fits : ℕ → ℕ → Type 0
+  Fits k j = getD (freedRow (s .free) p days q) (entryAt j k) 0 ≤ capacity days (pointAt (set ps p q) j) k
+
+  -- its row holds its capacity, and the other rows what they held
+  row-here : (k : ℕ) → k < rowLength → Fits k p
+  row-here k hk =
+      let a = row-in (s .free) p days q k hk (omega (arith, w .order .table-length, w .point-from)) in
+      let b = ap (λ (x : Point). capacity days x k) (point-same ps p q in-points) in
+      omega (arith, a, b)
+
+  row-there : (i k : ℕ) → i < pointCount → k < rowLength → (i ≡ p → ⊥) → Fits k i
+  row-there i k hi hk ne =
+      let a = row-out (s .free) p days q i k hk ne in
+      let b = ap (λ (x : Point). capacity days x k) (point-other ps p q i ne) in
+      omega (arith, a, b, w .order .free i k hi hk)
+
+  opened-free : (i k : ℕ) → i < pointCount → k < rowLength → Fits k i
+  opened-free i k hi hk = go (ℕ-discrete i p)
+    where
+      go : Dec (i ≡ p) → Fits k i
+      go (yes e) = subst (Fits k) (sym e) (row-here k hk)
+      go (no ne) = row-there i k hi hk ne
+
+  -- an open point stays open, and the one opened is open too
+  stays-open : (i : ℕ) → 0 < pointAt ps i .kind → 0 < pointAt (set ps p q) i .kind
+  stays-open i h =
+      set-keeps (λ (x : Point). 0 < x .kind) ps p q closedPoint i in-points (omega (arith, w .point-open .kind .from)) h
+
+  opened-order : InOrder (opened s p kind total rate)
+  unfolding opened
+  opened-order =
+      record {
+        table-length = row-length (s .free) p days q ∙ w .order .table-length;
+        ledger-length = w .order .ledger-length;
+        few = w .order .few;
+        year = w .order .year;
+        points = λ i b. set-keeps (λ (x : Point). pointOk x ≡ true) ps p q closedPoint i in-points (open-ok q (w .point-open)) (w .order .points i b);
+        accounts = w .order .accounts;
+        free = opened-free;
+        lines = λ i b. line-carry (s .register .year) ps (set ps p q) (s .register .accounts) (s .register .accounts) (lineAt (s .ledger) i) (λ f. f) (stays-open _) (w .order .lines i b);
+      }
+
+  opened-sound : Sound (opened s p kind total rate)
+  unfolding opened
+  opened-sound =
+      record {
+        sized = record { points = length-set ps p q ∙ sound .sized .points; accounts = sound .sized .accounts };
+        order = in-order (opened s p kind total rate) opened-order;
+      }
+
+pub open-keeps : (s : State) (p kind total rate : ℕ) → Sound s → Sound (openAfter s p kind total rate)
+unfolding openAfter
+open-keeps s p kind total rate sound =
+    leaves-either Sound (openNumber s p kind total rate) (opened s p kind total rate) s
+    (λ h. opened-sound s p kind total rate sound (open-facts s p kind total rate h))
+    sound
+
+-- ---- place guarantee
+module _ (s : State) (u g : ℕ) (sound : Sound s) (w : PlaceFacts s u g) where
+  abbrev us : List Account
+  us = s .register .accounts
+
+  abbrev a : Account
+  a = pledged (accountAt us u) g
+
+  in-accounts : u < length us
+  in-accounts = omega (arith, sound .sized .accounts, w .user)
+
+  pledged-ok : accountOk a ≡ true
+  pledged-ok = on-file-ok a (record { filed = refl; guarantee = w .limit; commitment = w .covers })
+
+  -- who is on file stays on file
+  stays-filed : (i : ℕ) → accountAt us i .«on_file» ≡ 1 → accountAt (set us u a) i .«on_file» ≡ 1
+  stays-filed i h = set-keeps (λ (x : Account). x .«on_file» ≡ 1) us u a absentUser i in-accounts refl h
+
+  placed-order : InOrder (placed s u g)
+  unfolding placed
+  placed-order =
+      record {
+        table-length = w .order .table-length;
+        ledger-length = w .order .ledger-length;
+        few = w .order .few;
+        year = w .order .year;
+        points = w .order .points;
+        accounts = λ i b. set-keeps (λ (x : Account). accountOk x ≡ true) us u a absentUser i in-accounts pledged-ok (w .order .accounts i b);
+        free = w .order .free;
+        lines = λ i b. line-carry (s .register .year) (s .register .points) (s .register .points) us (set us u a) (lineAt (s .ledger) i) (stays-filed _) (λ f. f) (w .order .lines i b);
+      }
+
+  placed-sound : Sound (placed s u g)
+  unfolding placed
+  placed-sound =
+      record {
+        sized = record { points = sound .sized .points; accounts = length-set us u a ∙ sound .sized .accounts };
+        order = in-order (placed s u g) placed-order;
+      }
+
+pub place-keeps : (s : State) (u g : ℕ) → Sound s → Sound (placeAfter s u g)
+unfolding placeAfter
+place-keeps s u g sound =
+    leaves-either Sound (placeNumber s u g) (placed s u g) s (λ h. placed-sound s u g sound (place-facts s u g h)) sound
+
+-- ---- turn the year
+-- the accounts after it
+pub settled-at : (us : List Account) (i : ℕ) → length us ≡ userCount → i < userCount → accountAt (settledAccounts us) i ≡ withCommitment (accountAt us i) 0
+unfolding settledAccounts
+settled-at us i size b =
+    ap (accountAt (replaced us 0 userCount (settledAt us))) (sym (zero-add i))
+    ∙ replaced-in us 0 userCount (settledAt us) absentUser i b (omega (arith, size))
+
+settled-ok : (a : Account) → accountOk a ≡ true → accountOk (withCommitment a 0) ≡ true
+settled-ok a h =
+    ⊎-elim
+    (λ (e : Absent a). absent-ok (withCommitment a 0) (record { absent = e .absent; guarantee = e .guarantee; commitment = refl }))
+    (λ (e : OnFile a). on-file-ok (withCommitment a 0) (record { filed = e .filed; guarantee = e .guarantee; commitment = omega arith }))
+    (account-is a h)
+
+module _ (s : State) (y : ℕ) (sound : Sound s) (w : TurnFacts s y) where
+  abbrev vs : List Account
+  vs = s .register .accounts
+
+  turned-order : InOrder (turned s y)
+  unfolding turned
+  turned-order =
+      record {
+        table-length = table-length (s .free) (yearDays y) (s .register .points) ∙ w .order .table-length;
+        ledger-length = length-replicate {A = ℕ} ledgerLength 0;
+        few = omega arith;
+        year = w .year;
+        points = w .order .points;
+        accounts = λ i b. ap accountOk (settled-at vs i (sound .sized .accounts) b) ∙ settled-ok (accountAt vs i) (w .order .accounts i b);
+        free = λ i k hi hk. let e = table-at (s .free) (yearDays y) (s .register .points) i k (w .order .table-length) hi hk in omega (arith, e);
+        lines = λ i b. absurd (not-suc-le-zero b);
+      }
+
+  turned-sound : Sound (turned s y)
+  unfolding turned settledAccounts
+  turned-sound =
+      record {
+        sized = record { points = sound .sized .points; accounts = replaced-length vs 0 userCount (settledAt vs) ∙ sound .sized .accounts };
+        order = in-order (turned s y) turned-order;
+      }
+
+pub turn-keeps : (s : State) (y : ℕ) → Sound s → Sound (turnAfter s y)
+unfolding turnAfter
+turn-keeps s y sound =
+    leaves-either Sound (turnNumber s y) (turned s y) s (λ h. turned-sound s y sound (turn-facts s y h)) sound

@@ -1,0 +1,4 @@
+pub mod OpenLaws
+pub mod PlaceLaws
+pub mod TurnLaws
+pub mod Kept

@@ -1,0 +1,3 @@
+pub mod OpenPoint
+pub mod PlaceGuarantee
+pub mod TurnYear

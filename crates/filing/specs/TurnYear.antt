@@ -1,0 +1,44 @@
+-- Document 01, "The changing calls": turn the year.
+-- Assumes nothing.
+use Prim.Native.Nat.{ℕ}
+use mathlib.Core.List.{List, [], _∷_}
+use lib.Dec.{ltb}
+use Rattle.calendar.specs.ThermalYears.{isThermalYear}
+use Rattle.register.specs.declared.accounts.Account.{Account}
+use Rattle.register.specs.declared.registers.Register.{Register}
+use Rattle.register.specs.Limits.{userCount}
+use Rattle.register.specs.Ranges.{replaced}
+use Rattle.register.specs.Registers.{State, state, accountAt, withCommitment, withYear, withAccounts, withLines}
+use Rattle.register.specs.Ledger.{emptyLedger}
+use Rattle.register.specs.Amounts.{yearDays, freedTable}
+use Rattle.register.specs.Order.{inOrder}
+use Rattle.register.specs.Answers.{Question, _asks_, numberOf, leaves}
+
+-- questions 1, 2 ("Y") and 15: "Is the new year later?"
+abbrev pub turnQuestions : State → ℕ → List Question
+turnQuestions s y =
+    1 asks inOrder s
+    ∷ 2 asks isThermalYear y
+    ∷ 15 asks ltb (s .register .year) y
+    ∷ []
+
+unfoldable pub turnNumber : State → ℕ → ℕ
+turnNumber s y = numberOf (turnQuestions s y)
+
+-- "commitments 0; points, rates and guarantees remain"
+abbrev pub settledAt : List Account → ℕ → Account
+settledAt us i = withCommitment (accountAt us i) 0
+
+unfoldable pub settledAccounts : List Account → List Account
+settledAccounts us = replaced us 0 userCount (settledAt us)
+
+abbrev pub turnedRegister : Register → ℕ → Register
+turnedRegister r y = withYear (withLines (withAccounts r (settledAccounts (r .accounts))) 0) y
+
+-- "Turn the year to a later Y: totals free again, ledger empty"
+unfoldable pub turned : State → ℕ → State
+turned s y =
+    state (turnedRegister (s .register) y) (freedTable (s .free) (yearDays y) (s .register .points)) emptyLedger
+
+unfoldable pub turnAfter : State → ℕ → State
+turnAfter s y = leaves (turnNumber s y) (turned s y) s
