@@ -5,3 +5,5 @@
 //! way is computed another way here.
 
 pub mod calendar;
+pub mod register;
+pub mod script;

@@ -1,0 +1,228 @@
+// The host: it keeps the register between the calls and lends the two lists, and it can write any number of them.
+ghost use Prim.Native.Nat.{_≤_};
+use crate::steps::Step;
+use crate::steps::byte;
+use crate::steps::half;
+use crate::steps::is_call;
+use crate::steps::low;
+use register::Account;
+use register::Filed;
+use register::Point;
+use register::Register;
+use register::Report;
+
+// Both lists have some numbers more than a call is lent, so that a longer list can be tried.
+pub const TABLE_SPACE: usize = 11_720;
+
+pub const LEDGER_SPACE: usize = 10_248;
+
+// What every number of both lists is before the first step.
+pub const UNUSED: u32 = 7;
+
+// What the host holds besides the lists: the register, how much of each list a call is lent, and the last answer.
+pub struct Host {
+    pub register: Register,
+    pub table: usize,
+    pub ledger: usize,
+    pub number: u8,
+    pub amount: u32,
+}
+
+fn least(a: usize, b: usize) -> usize
+    ensures { λ r. ⌜ r ≤ b ⌝ }
+{
+    if a < b { a } else { b }
+}
+
+// A refused fresh register is of year 0, which no call takes: the script starts from it.
+pub fn start() -> Host {
+    let mut free = [UNUSED; 1];
+    let mut ledger = [UNUSED; 1];
+    let none = register::fresh_register(0, &mut free, &mut ledger);
+    let r = none.register;
+    Host {
+        register: r,
+        table: register::TABLE,
+        ledger: register::LEDGER,
+        number: 0,
+        amount: 0,
+    }
+}
+
+fn with_register(h: Host, r: Register) -> Host {
+    Host {
+        register: r,
+        table: h.table,
+        ledger: h.ledger,
+        number: h.number,
+        amount: h.amount,
+    }
+}
+
+fn after_call(h: Host, f: Filed) -> Host {
+    let r = f.register;
+    let answer = f.answer;
+    Host {
+        register: r,
+        table: h.table,
+        ledger: h.ledger,
+        number: register::verdict_number(answer),
+        amount: 0,
+    }
+}
+
+fn after_report(h: Host, answer: Report) -> Host {
+    let r = h.register;
+    Host {
+        register: r,
+        table: h.table,
+        ledger: h.ledger,
+        number: register::report_number(answer),
+        amount: register::report_amount(answer),
+    }
+}
+
+// A call, with what it is lent.
+fn run_call(h: Host, s: Step, free: &mut [u32], ledger: &mut [u32]) -> Host {
+    let r = h.register;
+    let letter = s.letter;
+    match letter {
+        b'F' => after_call(h, register::fresh_register(half(s.day), free, ledger)),
+        b'P' => after_call(
+            h,
+            filing::open_point(
+                r,
+                free,
+                &ledger[..],
+                byte(s.index),
+                byte(s.kind),
+                s.value,
+                s.rate,
+            ),
+        ),
+        b'G' => after_call(
+            h,
+            filing::place_guarantee(r, &free[..], &ledger[..], byte(s.index), s.value),
+        ),
+        b'Y' => after_call(h, filing::turn_year(r, free, ledger, half(s.day))),
+        _ => after_report(
+            h,
+            register::report_free(r, &free[..], &ledger[..], byte(s.index), half(s.day)),
+        ),
+    }
+}
+
+fn lend(h: Host, s: Step, free: &mut [u32], ledger: &mut [u32]) -> Host {
+    let table_end = least(h.table, free.len());
+    let ledger_end = least(h.ledger, ledger.len());
+    run_call(h, s, &mut free[..table_end], &mut ledger[..ledger_end])
+}
+
+fn written_point(p: Point, letter: u8, value: u64) -> Point {
+    let mut q = p;
+    match letter {
+        b'k' => q.kind = byte(low(value)),
+        b't' => q.total = low(value),
+        _ => q.rate = low(value),
+    }
+    q
+}
+
+fn write_point(h: Host, s: Step) -> Host {
+    let i = (s.index % 32) as usize;
+    let mut r = h.register;
+    let p = r.points[i];
+    let q = written_point(p, s.letter, s.value);
+    r.points[i] = q;
+    with_register(h, r)
+}
+
+fn written_account(a: Account, letter: u8, value: u64) -> Account {
+    let mut b = a;
+    match letter {
+        b'o' => b.on_file = byte(low(value)),
+        b'g' => b.guarantee = value,
+        _ => b.commitment = value,
+    }
+    b
+}
+
+fn write_account(h: Host, s: Step) -> Host {
+    let i = (s.index % 64) as usize;
+    let mut r = h.register;
+    let a = r.accounts[i];
+    let b = written_account(a, s.letter, s.value);
+    r.accounts[i] = b;
+    with_register(h, r)
+}
+
+fn write_year(h: Host, s: Step) -> Host {
+    let mut r = h.register;
+    r.year = half(low(s.value));
+    with_register(h, r)
+}
+
+fn write_lines(h: Host, s: Step) -> Host {
+    let mut r = h.register;
+    r.lines = half(low(s.value));
+    with_register(h, r)
+}
+
+fn write_number(list: &mut [u32], s: Step) {
+    let i = s.index as usize;
+    if i < list.len() {
+        list[i] = low(s.value);
+    }
+}
+
+// Copies the first line of the ledger to those after it, so that there are so many.
+fn repeat_line(ledger: &mut [u32], lines: u16) {
+    let end = least(register::LINE * (lines as usize), ledger.len());
+    let mut k: usize = register::LINE;
+    while k < end {
+        ledger[k] = ledger[k - register::LINE];
+        k += 1;
+    }
+}
+
+// Writes a number of the register, or how much of a list is lent.
+fn write_held(h: Host, s: Step) -> Host {
+    let mut g = h;
+    let letter = s.letter;
+    match letter {
+        b'y' => write_year(h, s),
+        b'n' => write_lines(h, s),
+        b'k' | b't' | b'r' => write_point(h, s),
+        b'o' | b'g' | b'c' => write_account(h, s),
+        b'u' => {
+            g.table = low(s.value) as usize;
+            g
+        }
+        b'v' => {
+            g.ledger = low(s.value) as usize;
+            g
+        }
+        _ => h,
+    }
+}
+
+// Runs a step of any kind.
+pub fn run_step(h: Host, s: Step, free: &mut [u32], ledger: &mut [u32]) -> Host {
+    let letter = s.letter;
+    if is_call(letter) {
+        return lend(h, s, free, ledger);
+    }
+    if letter == b'a' {
+        write_number(free, s);
+        return h;
+    }
+    if letter == b'l' {
+        write_number(ledger, s);
+        return h;
+    }
+    if letter == b'm' {
+        repeat_line(ledger, half(low(s.value)));
+        return h;
+    }
+    write_held(h, s)
+}

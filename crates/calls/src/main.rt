@@ -1,0 +1,53 @@
+// Runs a script of steps against the register and prints a line for each. The script, `stdin`, and what must be printed, `stdout`,
+// are written by another implementation (reference/), which shares no code with the register.
+//
+// A step is a call, or writes one number of the register, of the lists that are lent or of their lengths, or copies a line: what a
+// faulty host could do. Its record has eight words of 32 bits, little-endian: letter; point, user or the place in a list; kind;
+// year or gas-day; rate; total, guarantee, number written or count of lines, low half first; and one that is not read.
+//
+// A line has the position of the step from 1, the step, the number of its answer after `->`, for a report the free amount, and a
+// digest of the register and of both lists, the numbers that are never lent included.
+mod digests;
+mod hosts;
+mod lines;
+mod steps;
+
+use crate::hosts::Host;
+use crate::hosts::LEDGER_SPACE;
+use crate::hosts::TABLE_SPACE;
+use crate::hosts::UNUSED;
+use crate::steps::Step;
+use libc::STDIN_FILENO;
+
+// The script ends long before this.
+const MOST_STEPS: u64 = 100_000;
+
+// Whether there is a whole record left.
+fn read_record(record: &mut [u8; 32]) -> bool {
+    io::read_full(STDIN_FILENO, record) == 32
+}
+
+fn run_and_print(
+    position: u64,
+    s: Step,
+    h: Host,
+    free: &mut [u32; 11720],
+    ledger: &mut [u32; 10248],
+) -> Host {
+    let after = hosts::run_step(h, s, free, ledger);
+    lines::print_line(position, s, after, &free[..], &ledger[..]);
+    after
+}
+
+fn main() {
+    let mut free = [UNUSED; TABLE_SPACE];
+    let mut ledger = [UNUSED; LEDGER_SPACE];
+    let mut record = [0u8; 32];
+    let mut host = hosts::start();
+    let mut position: u64 = 1;
+    while position <= MOST_STEPS && read_record(&mut record) {
+        let step = steps::step_of(&record);
+        host = run_and_print(position, step, host, &mut free, &mut ledger);
+        position += 1;
+    }
+}

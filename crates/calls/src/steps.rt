@@ -1,0 +1,66 @@
+// A step of the script, and its record.
+
+// What a record holds, whether the step uses it or not.
+pub struct Step {
+    pub letter: u8,
+    pub index: u32,
+    pub kind: u32,
+    pub day: u32,
+    pub rate: u32,
+    pub value: u64,
+}
+
+fn word(a: u8, b: u8, c: u8, d: u8) -> u32 {
+    (a as u32) + 256 * (b as u32) + 65_536 * (c as u32) + 16_777_216 * (d as u32)
+}
+
+fn joined(low: u32, high: u32) -> u64 {
+    (low as u64) + 4_294_967_296 * (high as u64)
+}
+
+pub fn step_of(r: &[u8; 32]) -> Step {
+    let index = word(r[4], r[5], r[6], r[7]);
+    let kind = word(r[8], r[9], r[10], r[11]);
+    let day = word(r[12], r[13], r[14], r[15]);
+    let rate = word(r[16], r[17], r[18], r[19]);
+    let low = word(r[20], r[21], r[22], r[23]);
+    let high = word(r[24], r[25], r[26], r[27]);
+    Step {
+        letter: r[0],
+        index,
+        kind,
+        day,
+        rate,
+        value: joined(low, high),
+    }
+}
+
+// Whether a step is a call; the others write a number.
+pub fn is_call(letter: u8) -> bool {
+    match letter {
+        b'F' => true,
+        b'P' => true,
+        b'G' => true,
+        b'Y' => true,
+        b'Q' => true,
+        _ => false,
+    }
+}
+
+// Numbers as wide as a field takes them. The script has none that does not fit.
+pub fn byte(x: u32) -> u8 {
+    (x % 256) as u8
+}
+
+pub fn half(x: u32) -> u16 {
+    (x % 65_536) as u16
+}
+
+// The two halves of a wide number.
+pub fn low(x: u64) -> u32 {
+    (x % 4_294_967_296) as u32
+}
+
+pub fn high(x: u64) -> u32 {
+    (x / 4_294_967_296) as u32
+}

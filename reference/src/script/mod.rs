@@ -1,0 +1,356 @@
+//! The script of steps that the program `calls` runs, and what it must print.
+//!
+//! A step is a call, or writes one number of the register, of the lists that
+//! are lent or of their lengths, or copies a line: what a faulty host could do.
+//! The script has two parts: steps written by hand, with the answers that
+//! document 01 gives them, and a random stream.
+//!
+//! In the script a step is a record of eight words of 32 bits, little-endian:
+//!
+//! - 0: the letter of the step;
+//! - 1: point, user or the place in a list;
+//! - 2: kind;
+//! - 3: year or gas-day;
+//! - 4: rate;
+//! - 5, 6: total, guarantee, number written or count of lines, low half first;
+//! - 7: 0.
+//!
+//! A line of the output has the position of the step from 1, the step, the
+//! number of its answer after `->`, for a report the free amount, and a digest of
+//! the register and of both lists.
+
+pub mod by_hand;
+pub mod random;
+
+use std::fmt;
+
+use crate::register::{Lent, Refusal, Register, LEDGER_LENGTH, NUMBERS_IN_LINE, TABLE_LENGTH};
+
+/// The numbers of each list that are lent in no call with the right lengths. A
+/// call that writes there is found by the digest.
+const SPARE: usize = 8;
+
+/// What every number of both lists is before the first step.
+const UNUSED: u32 = 7;
+
+/// A prime above every number of 32 bits, so that a digest changes with any
+/// single number.
+const DIGEST_PRIME: u64 = 4_294_967_311;
+
+/// The weight of a number in the digest, against that of the next one.
+const DIGEST_FACTOR: u64 = 1_000_003;
+
+/// A number that a step can write.
+#[derive(Debug, Clone, Copy, PartialEq, Eq)]
+pub enum Field {
+    Year,
+    Lines,
+    Kind(u8),
+    Total(u8),
+    Rate(u8),
+    OnFile(u8),
+    Guarantee(u8),
+    Commitment(u8),
+    Free(u16),
+    Ledger(u16),
+    /// How much of the table is lent to later calls.
+    TableLength,
+    /// How much of the ledger is lent to later calls.
+    LedgerLength,
+}
+
+impl Field {
+    /// The letter in the script, the name in the output, and the index.
+    fn parts(self) -> (u8, &'static str, Option<u16>) {
+        match self {
+            Field::Year => (b'y', "year", None),
+            Field::Lines => (b'n', "lines", None),
+            Field::Kind(point) => (b'k', "kind", Some(point.into())),
+            Field::Total(point) => (b't', "total", Some(point.into())),
+            Field::Rate(point) => (b'r', "rate", Some(point.into())),
+            Field::OnFile(user) => (b'o', "on-file", Some(user.into())),
+            Field::Guarantee(user) => (b'g', "guarantee", Some(user.into())),
+            Field::Commitment(user) => (b'c', "commitment", Some(user.into())),
+            Field::Free(place) => (b'a', "free", Some(place)),
+            Field::Ledger(place) => (b'l', "ledger", Some(place)),
+            Field::TableLength => (b'u', "table-length", None),
+            Field::LedgerLength => (b'v', "ledger-length", None),
+        }
+    }
+}
+
+/// One step of the script.
+#[derive(Debug, Clone, Copy, PartialEq, Eq)]
+pub enum Step {
+    Fresh {
+        year: u16,
+    },
+    Open {
+        point: u8,
+        kind: u8,
+        total: u64,
+        rate: u32,
+    },
+    Place {
+        user: u8,
+        guarantee: u64,
+    },
+    Turn {
+        year: u16,
+    },
+    Report {
+        point: u8,
+        day: u16,
+    },
+    Set(Field, u64),
+    /// Copies the first line of the ledger to those after it, so that there are
+    /// so many. It counts none.
+    Repeat {
+        lines: u16,
+    },
+}
+
+impl Step {
+    /// The record of the step.
+    pub fn record(self) -> [u8; 32] {
+        let (letter, index, kind, year_or_day, rate, value) = match self {
+            Step::Fresh { year } => (b'F', 0, 0, year, 0, 0),
+            Step::Open {
+                point,
+                kind,
+                total,
+                rate,
+            } => (b'P', point.into(), kind, 0, rate, total),
+            Step::Place { user, guarantee } => (b'G', user.into(), 0, 0, 0, guarantee),
+            Step::Turn { year } => (b'Y', 0, 0, year, 0, 0),
+            Step::Report { point, day } => (b'Q', point.into(), 0, day, 0, 0),
+            Step::Set(field, value) => {
+                let (letter, _, index) = field.parts();
+                (letter, index.unwrap_or(0), 0, 0, 0, value)
+            }
+            Step::Repeat { lines } => (b'm', 0, 0, 0, 0, lines.into()),
+        };
+        let mut record = [0; 32];
+        record[0] = letter;
+        record[4..6].copy_from_slice(&u16::to_le_bytes(index));
+        record[8] = kind;
+        record[12..14].copy_from_slice(&u16::to_le_bytes(year_or_day));
+        record[16..20].copy_from_slice(&u32::to_le_bytes(rate));
+        record[20..28].copy_from_slice(&u64::to_le_bytes(value));
+        record
+    }
+}
+
+impl fmt::Display for Step {
+    fn fmt(&self, f: &mut fmt::Formatter<'_>) -> fmt::Result {
+        match *self {
+            Step::Fresh { year } => write!(f, "fresh {year}"),
+            Step::Open {
+                point,
+                kind,
+                total,
+                rate,
+            } => write!(f, "open {point} {kind} {total} {rate}"),
+            Step::Place { user, guarantee } => write!(f, "place {user} {guarantee}"),
+            Step::Turn { year } => write!(f, "turn {year}"),
+            Step::Report { point, day } => write!(f, "report {point} {day}"),
+            Step::Set(field, value) => match field.parts() {
+                (_, name, Some(index)) => write!(f, "set {name} {index} {value}"),
+                (_, name, None) => write!(f, "set {name} {value}"),
+            },
+            Step::Repeat { lines } => write!(f, "repeat {lines}"),
+        }
+    }
+}
+
+/// What a step answers; a step that writes a number answers nothing.
+#[derive(Debug, Clone, Copy, PartialEq, Eq)]
+pub enum Answer {
+    None,
+    /// The number of a changing call or of a fresh register.
+    Number(u8),
+    /// The number of a report and the free amount, 0 if it is refused.
+    Report(u8, u32),
+}
+
+impl fmt::Display for Answer {
+    fn fmt(&self, f: &mut fmt::Formatter<'_>) -> fmt::Result {
+        match self {
+            Answer::None => Ok(()),
+            Answer::Number(number) => write!(f, " -> {number}"),
+            Answer::Report(number, amount) => write!(f, " -> {number} {amount}"),
+        }
+    }
+}
+
+/// The register and the lists that the steps of a script work on.
+#[derive(Debug, Clone, PartialEq, Eq)]
+pub struct Host {
+    pub register: Register,
+    free: Vec<u32>,
+    ledger: Vec<u32>,
+    table_length: usize,
+    ledger_length: usize,
+}
+
+impl Default for Host {
+    fn default() -> Host {
+        Host {
+            register: Register::blank(0),
+            free: vec![UNUSED; TABLE_LENGTH + SPARE],
+            ledger: vec![UNUSED; LEDGER_LENGTH + SPARE],
+            table_length: TABLE_LENGTH,
+            ledger_length: LEDGER_LENGTH,
+        }
+    }
+}
+
+impl Host {
+    /// The register, and the parts of both lists that are lent.
+    fn lend(&mut self) -> (&mut Register, Lent<'_>) {
+        let lent = Lent {
+            free: &mut self.free[..self.table_length],
+            ledger: &mut self.ledger[..self.ledger_length],
+        };
+        (&mut self.register, lent)
+    }
+
+    pub fn is_in_order(&mut self) -> bool {
+        let (register, lent) = self.lend();
+        register.is_in_order(&lent)
+    }
+
+    pub fn run(&mut self, step: Step) -> Answer {
+        match step {
+            Step::Set(field, value) => self.set(field, value),
+            Step::Repeat { lines } => self.repeat(lines),
+            _ => return self.call(step),
+        }
+        Answer::None
+    }
+
+    fn call(&mut self, step: Step) -> Answer {
+        let (register, mut lent) = self.lend();
+        match step {
+            Step::Fresh { year } => number_of(register.renew(&mut lent, year)),
+            Step::Open {
+                point,
+                kind,
+                total,
+                rate,
+            } => number_of(register.open_point(&mut lent, point, kind, total, rate)),
+            Step::Place { user, guarantee } => {
+                number_of(register.place_guarantee(&lent, user, guarantee))
+            }
+            Step::Turn { year } => number_of(register.turn_year(&mut lent, year)),
+            Step::Report { point, day } => match register.report(&lent, point, day) {
+                Ok(amount) => Answer::Report(0, amount),
+                Err(refusal) => Answer::Report(refusal.number(), 0),
+            },
+            Step::Set(..) | Step::Repeat { .. } => Answer::None,
+        }
+    }
+
+    /// Copies the first line of the ledger, so that there are so many of it.
+    fn repeat(&mut self, lines: u16) {
+        let (line, others) = self.ledger.split_at_mut(NUMBERS_IN_LINE);
+        for other in others
+            .chunks_exact_mut(NUMBERS_IN_LINE)
+            .take(usize::from(lines).saturating_sub(1))
+        {
+            other.copy_from_slice(line);
+        }
+    }
+
+    /// What a field holds.
+    pub fn get(&self, field: Field) -> u64 {
+        let point = |index: u8| self.register.points[usize::from(index)];
+        let account = |index: u8| self.register.accounts[usize::from(index)];
+        match field {
+            Field::Year => self.register.year.into(),
+            Field::Lines => self.register.lines.into(),
+            Field::Kind(index) => point(index).kind.into(),
+            Field::Total(index) => point(index).total.into(),
+            Field::Rate(index) => point(index).rate.into(),
+            Field::OnFile(index) => account(index).on_file.into(),
+            Field::Guarantee(index) => account(index).guarantee,
+            Field::Commitment(index) => account(index).commitment,
+            Field::Free(place) => self.free[usize::from(place)].into(),
+            Field::Ledger(place) => self.ledger[usize::from(place)].into(),
+            Field::TableLength => self.table_length as u64,
+            Field::LedgerLength => self.ledger_length as u64,
+        }
+    }
+
+    /// Writes a field. The script has no number that its field cannot hold.
+    fn set(&mut self, field: Field, value: u64) {
+        fn fitting<T: TryFrom<u64>>(value: u64) -> T {
+            T::try_from(value)
+                .ok()
+                .expect("the number fits into the field")
+        }
+        let register = &mut self.register;
+        match field {
+            Field::Year => register.year = fitting(value),
+            Field::Lines => register.lines = fitting(value),
+            Field::Kind(index) => register.points[usize::from(index)].kind = fitting(value),
+            Field::Total(index) => register.points[usize::from(index)].total = fitting(value),
+            Field::Rate(index) => register.points[usize::from(index)].rate = fitting(value),
+            Field::OnFile(index) => register.accounts[usize::from(index)].on_file = fitting(value),
+            Field::Guarantee(index) => register.accounts[usize::from(index)].guarantee = value,
+            Field::Commitment(index) => register.accounts[usize::from(index)].commitment = value,
+            Field::Free(place) => self.free[usize::from(place)] = fitting(value),
+            Field::Ledger(place) => self.ledger[usize::from(place)] = fitting(value),
+            Field::TableLength => self.table_length = fitting(value),
+            Field::LedgerLength => self.ledger_length = fitting(value),
+        }
+    }
+
+    /// A number that changes with any single number of the register and of both
+    /// lists, whole.
+    pub fn digest(&self) -> u64 {
+        let halves = |wide: u64| [wide & 0xffff_ffff, wide >> 32];
+        let mut numbers: Vec<u64> = vec![self.register.year.into(), self.register.lines.into()];
+        for point in &self.register.points {
+            numbers.extend([u64::from(point.kind), point.total.into(), point.rate.into()]);
+        }
+        for account in &self.register.accounts {
+            numbers.push(account.on_file.into());
+            numbers.extend(halves(account.guarantee));
+            numbers.extend(halves(account.commitment));
+        }
+        numbers.extend(self.free.iter().copied().map(u64::from));
+        numbers.extend(self.ledger.iter().copied().map(u64::from));
+
+        numbers.iter().fold(0, |digest, number| {
+            (digest * DIGEST_FACTOR + number) % DIGEST_PRIME
+        })
+    }
+}
+
+fn number_of(result: Result<(), Refusal>) -> Answer {
+    Answer::Number(result.map_or_else(Refusal::number, |()| 0))
+}
+
+/// The whole script.
+pub fn steps() -> Vec<Step> {
+    let mut host = Host::default();
+    let mut steps: Vec<Step> = by_hand::cases().iter().map(|case| case.step).collect();
+    for &step in &steps {
+        host.run(step);
+    }
+    steps.extend(random::stream(host));
+    steps
+}
+
+/// The lines that the steps print.
+pub fn lines(steps: &[Step]) -> Vec<String> {
+    let mut host = Host::default();
+    (1..)
+        .zip(steps)
+        .map(|(position, &step)| {
+            let answer = host.run(step);
+            format!("{position} {step}{answer} digest {}", host.digest())
+        })
+        .collect()
+}

@@ -1,0 +1,122 @@
+//! The script of the program `calls`: the steps written by hand have the answers
+//! that stand beside them, and the random stream is of use.
+
+use reference::script::{by_hand, lines, random, steps, Answer, Host, Step};
+
+#[test]
+fn the_steps_by_hand_are_answered_as_written() {
+    let mut host = Host::default();
+    for (index, case) in by_hand::cases().iter().enumerate() {
+        let answer = host.run(case.step);
+        let position = index + 1;
+        assert_eq!(
+            answer, case.answer,
+            "{position} {}: {}",
+            case.step, case.why
+        );
+    }
+}
+
+/// A refused call alters nothing.
+#[test]
+fn a_refused_call_leaves_everything() {
+    let mut host = Host::default();
+    for step in steps() {
+        let before = host.clone();
+        match (step, host.run(step)) {
+            (Step::Fresh { .. }, Answer::Number(1..)) => {}
+            (_, Answer::Number(1..) | Answer::Report(..)) => {
+                assert!(host == before, "{step}");
+            }
+            _ => {}
+        }
+    }
+}
+
+/// Accepted calls and each refusal are frequent.
+#[test]
+fn the_stream_has_every_answer_often() {
+    let mut host = Host::default();
+    let mut answers = Vec::new();
+    for step in random::stream(host.clone()) {
+        match (step, host.run(step)) {
+            (step, Answer::Number(number)) => answers.push((step.record()[0], number)),
+            (step, Answer::Report(number, _)) => answers.push((step.record()[0], number)),
+            (_, Answer::None) => {}
+        }
+    }
+    let count = |letter: u8, number: u8| {
+        answers
+            .iter()
+            .filter(|&&answer| answer == (letter, number))
+            .count()
+    };
+    for (letter, number, at_least) in [
+        (b'F', 0, 5),
+        (b'F', 2, 3),
+        (b'P', 0, 50),
+        (b'P', 1, 20),
+        (b'P', 2, 20),
+        (b'P', 4, 20),
+        (b'G', 0, 50),
+        (b'G', 1, 20),
+        (b'G', 2, 20),
+        (b'G', 6, 5),
+        (b'Y', 0, 10),
+        (b'Y', 1, 3),
+        (b'Y', 2, 3),
+        (b'Y', 15, 3),
+        (b'Q', 0, 80),
+        (b'Q', 1, 20),
+        (b'Q', 2, 10),
+        (b'Q', 3, 10),
+        (b'Q', 8, 10),
+    ] {
+        let found = count(letter, number);
+        assert!(
+            found >= at_least,
+            "{}: {number}, {found} times",
+            letter as char
+        );
+    }
+}
+
+#[test]
+fn a_digest_changes_with_any_number() {
+    use reference::script::Field::*;
+    let fields = [
+        Year,
+        Lines,
+        Kind(0),
+        Total(31),
+        Rate(7),
+        OnFile(0),
+        Guarantee(63),
+        Commitment(5),
+        Free(0),
+        Free(11_719),
+        Ledger(0),
+        Ledger(10_247),
+    ];
+    let mut host = Host::default();
+    host.run(Step::Fresh { year: 2023 });
+    for field in fields {
+        let before = (host.get(field), host.digest());
+        host.run(Step::Set(field, before.0 + 1));
+        assert_ne!(host.digest(), before.1, "{field:?}");
+        host.run(Step::Set(field, before.0));
+        assert_eq!(host.digest(), before.1, "{field:?}");
+    }
+    let before = host.digest();
+    host.run(Step::Set(Guarantee(5), 1 << 32));
+    assert_ne!(host.digest(), before);
+}
+
+/// What stands in `crates/calls` was written by this implementation.
+#[test]
+fn the_stored_files_are_these() {
+    let script: Vec<u8> = steps().into_iter().flat_map(Step::record).collect();
+    assert!(script == include_bytes!("../../crates/calls/stdin"));
+    let answers = lines(&steps()).join("\n") + "\n";
+    assert!(answers == include_str!("../../crates/calls/stdout"));
+}
