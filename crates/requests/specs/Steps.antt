@@ -2,11 +2,13 @@
 -- Assumes nothing.
 use Prim.Native.Nat.{ℕ, _≤_, _<_}
 use mathlib.Core.Path.{_≡_}
-use mathlib.Core.Bool.{true}
+use mathlib.Core.Bool.{Bool, true, false}
 use mathlib.Core.List.{List}
 use lib.ListN.{length}
-use Rattle.calendar.specs.ThermalYears.{isThermalYear}
+use Rattle.calendar.specs.ThermalYears.{isThermalYear, inThermalYear}
 use Rattle.calendar.specs.declared.thermal_years.Span.{Span}
+use Rattle.calendar.specs.declared.deadlines.Timeliness.{Timeliness}
+use Rattle.calendar.specs.declared.deadlines.Timeliness.the-variants.{InTime, Late, OutsideCalendar as NoDeadline}
 use Rattle.register.specs.declared.registers.Register.{Register}
 use Rattle.register.specs.Limits.{pointCount, tableLength, mostAmount, mostRate}
 use Rattle.register.specs.Registers.{State, pointAt}
@@ -19,6 +21,16 @@ use Rattle.requests.specs.declared.requesting.Decision.{Decision}
 use Rattle.requests.specs.declared.requesting.Decision.the-variants.{Grant, Refuse}
 use Rattle.requests.specs.Products.{firstOf, lastOf}
 use Rattle.requests.specs.RequestCapacity.{requestFields, spanFirst, spanLast, amountGranted}
+
+-- whether the calendar says that an arrival is in time
+abbrev pub isTimely : Timeliness → Bool
+isTimely InTime = true
+isTimely Late = false
+isTimely NoDeadline = false
+
+-- a gas-day of the year as a span
+abbrev pub daySpan : ℕ → ℕ → Span
+daySpan y d = spanWhere (inThermalYear y d) d d
 
 -- the span of a product where question 8 is answered yes
 unfoldable pub spanAnswer : ℕ → ℕ → Product → Span
@@ -43,5 +55,5 @@ pub record Bookable (r : Register) (q : Request) (first last amount : ℕ) : Typ
   pub begins : first ≡ spanFirst r q
   pub ends : last ≡ spanLast r q
   pub span : spanOk (r .year) (q .arrival) (spanFirst r q) (spanLast r q) ≡ true
-  pub amount : amount ≤ mostAmount
+  pub most : amount ≤ mostAmount
   pub lines : linesLeft r 1 ≡ true

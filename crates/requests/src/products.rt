@@ -3,7 +3,7 @@ ghost use mathlib.Core.Path.{_≡_};
 ghost use mathlib.Core.Bool.{true};
 ghost use Rattle.conferral.specs.Spans.{arrives};
 ghost use Rattle.requests.specs.Products.{kindOf, monthOk, isOffered, isInTime};
-ghost use Rattle.requests.specs.Steps.{spanAnswer};
+ghost use Rattle.requests.specs.Steps.{isTimely, daySpan, spanAnswer};
 use calendar::Span;
 use calendar::Timeliness;
 use register::Point;
@@ -61,7 +61,9 @@ pub(crate) fn is_offered(p: Point, product: Product) -> bool
 }
 
 // A gas-day of the year as a span.
-fn day_span(year: u16, day: u16) -> Span {
+fn day_span(year: u16, day: u16) -> Span
+    ensures { λ v. ⌜ v ≡ daySpan year day ⌝ }
+{
     if calendar::in_thermal_year(year, day) {
         return Span::Days(day, day);
     }
@@ -83,7 +85,9 @@ pub(crate) fn span_of(year: u16, arrival: u16, product: Product) -> Span
     }
 }
 
-fn is_timely(t: Timeliness) -> bool {
+fn is_timely(t: Timeliness) -> bool
+    ensures { λ v. ⌜ v ≡ isTimely t ⌝ }
+{
     match t {
         Timeliness::InTime => true,
         Timeliness::Late => false,

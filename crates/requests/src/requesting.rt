@@ -1,11 +1,15 @@
 // Request.
 ghost use mathlib.Core.Path.{_≡_};
 ghost use mathlib.Core.Bool.{true};
+ghost use Prim.Native.Nat.{_≤_};
+ghost use lib.IntN.{pos};
+ghost use Rattle.register.specs.Limits.{mostAmount};
 ghost use Rattle.register.specs.Registers.{state};
 ghost use Rattle.register.specs.Amounts.{entryOf};
 ghost use Rattle.calendar.specs.ThermalYears.{inThermalYear};
 ghost use Rattle.conferral.specs.Spans.{spanOk};
-ghost use Rattle.conferral.specs.Bookings.{booked};
+ghost use Rattle.conferral.specs.Bookings.{line, booked};
+ghost use Rattle.requests.specs.Products.{kindOf};
 ghost use Rattle.requests.specs.RequestCapacity.{numberOfConferral, amountOfConferral, requestFields, spanFirst, spanLast, spanQuestions, amountQuestions, requestQuestions, requestNumber, requestAmount, grantOf, requestAfter};
 ghost use Rattle.requests.specs.Steps.{Ready, Decides, Bookable};
 use crate::answers::Conferral;
@@ -118,7 +122,11 @@ fn decide(r: Register, free: &[u32], ledger: &[u32], q: Request) -> Decision
     decide_span(r, free, q)
 }
 
-fn line_of(q: Request, first: u16, amount: u32) -> Line {
+// The ledger line of a grant.
+fn line_of(q: Request, first: u16, amount: u32) -> Line
+    requires { ⌜ amount ≤ mostAmount ⌝ }
+    ensures { λ v. ⌜ v ≡ line (q .user) (q .point) (kindOf (q .product)) first (pos amount) ⌝ }
+{
     let product = q.product;
     Line {
         user: q.user as u32,
