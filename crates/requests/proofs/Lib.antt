@@ -1,2 +1,3 @@
 pub mod ProductLaws
 pub mod RequestLaws
+pub mod AnswerLaws

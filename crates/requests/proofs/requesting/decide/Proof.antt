@@ -53,7 +53,7 @@ mul-p : tie.Need-mul-p
 mul-p c = search needs
 
 element-copy-out-p : tie.Need-element-copy-out-p
-element-copy-out-p c = fields _ (two (c .before)) .point
+element-copy-out-p c = fields (c .before .before .before .before .before .before .before .args .q) (two (c .before)) .point
 
 is-open-requires : tie.Need-is-open-requires
 is-open-requires c κs = search needs
@@ -70,7 +70,7 @@ mul-a : tie.Need-mul-a
 mul-a c = search needs
 
 element-copy-out-a : tie.Need-element-copy-out-a
-element-copy-out-a c = fields _ (two (c .before .before .before .before .before)) .user
+element-copy-out-a c = fields (c .before .before .before .before .before .before .before .before .before .before .before .args .q) (two (c .before .before .before .before .before)) .user
 
 is-on-file-requires : tie.Need-is-on-file-requires
 is-on-file-requires c κs = search needs
@@ -103,7 +103,7 @@ returns-6 c =
     let d = e .before .before .before .before in
     let b = d .before .before .before .before in
     let st = g .before .before .before .before .before .before .before .before .before .before .before .before .before .before .before .before in
-    decides-too (spanQuestions (st .args .t1) (st .args .free .now) (st .args .q)) (requestQuestions (asked st) (st .args .q)) _ _ _ _
+    decides-too (spanQuestions (st .args .t1) (st .args .free .now) (st .args .q)) (requestQuestions (asked st) (st .args .q)) (st .args .t1) (st .args .free .now) (st .args .q) (c .decide-span .result)
     (rw (one (b .before .before), two b, three d, five e, sym (g .before .is-offered .ensures) ∙ not-false _ (g .if5 .left)))
     (c .decide-span .ensures)
 

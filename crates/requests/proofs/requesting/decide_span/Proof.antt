@@ -49,7 +49,7 @@ returns-2 : tie.Need-returns-2
 returns-2 c =
     let e = c .before in
     let a = c .before .before .before .before .before .before .before .before .args in
-    decides-too (amountQuestions (a .r) (a .free .now) (a .q)) (spanQuestions (a .r) (a .free .now) (a .q)) _ _ _ _
+    decides-too (amountQuestions (a .r) (a .free .now) (a .q)) (spanQuestions (a .r) (a .free .now) (a .q)) (a .r) (a .free .now) (a .q) (c .decide-amount .result)
     (rw (span (e .before .before) .fits, sym (e .before .is-in-time .ensures) ∙ not-false _ (e .if1 .left)))
     (c .decide-amount .ensures)
 
