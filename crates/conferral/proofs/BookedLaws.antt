@@ -2,7 +2,6 @@
 -- Assumes nothing.
 use mathlib.Core.Path.{_≡_, refl, ap, _∙_, subst}
 use mathlib.Core.Bool.{true, false, not, _&&_, _||_}
-use mathlib.Core.Logic.{⊎-elim}
 use mathlib.Core.List.{List}
 use Prim.Native.Nat.{ℕ, _+_, _-_, _≤_, _<_}
 use native.Mathlib.Decide.{ℕ-discrete, decLe, decLt}
@@ -19,7 +18,7 @@ use Rattle.calendar.proofs.Ranges.{and-right, both, Within, within, is-between}
 use Rattle.register.specs.declared.points.Point.{Point}
 use Rattle.register.specs.declared.accounts.Account.{Account}
 use Rattle.register.specs.declared.ledger.Line.{Line}
-use Rattle.register.specs.Limits.{pointCount, userCount, lineCount, rowLength, mostAmount, mostRate}
+use Rattle.register.specs.Limits.{pointCount, userCount, lineCount, rowLength, mostAmount}
 use Rattle.register.specs.Registers.{State, pointAt, accountAt, absentUser, withCommitment}
 use Rattle.register.specs.Ledger.{lineAt, withLine}
 use Rattle.register.specs.Amounts.{entryAt, entryOf, taken, freeOn}
@@ -31,9 +30,10 @@ use Rattle.register.proofs.LedgerLaws.{with-length, read-back, read-other}
 use Rattle.register.proofs.CalendarLaws.{year-facts}
 use Rattle.register.proofs.AmountLaws.{taken-length, taken-in, taken-out}
 use Rattle.register.proofs.ChargeLaws.{charge-bound, charge-in, charged-in}
-use Rattle.register.proofs.OrderFacts.{InOrder, ordered, in-order, Closed, Open, point-is, commitment-le, guarantee-le, on-file-ok, line-ok}
+use Rattle.register.proofs.OrderFacts.{InOrder, ordered, in-order, commitment-le, guarantee-le, on-file-ok, line-ok}
 use Rattle.register.proofs.OrderKept.{set-keeps, account-same, account-other, line-carry}
 use Rattle.conferral.specs.Bookings.{Grant, daysOf, chargeOf, lineOf, booked}
+use Rattle.conferral.proofs.BookingLaws.{rate-le}
 
 -- a grant that the register has room for
 pub record Bookable (s : State) (g : Grant) : Type 0 where
@@ -85,7 +85,7 @@ field-kept f us u a e i = go (ℕ-discrete i u) (decLt u (length us))
 charged-by : (a : Account) (p : Point) (amount days : ℕ) → accountOk a ≡ true → pointOk p ≡ true → amount ≤ mostAmount → days ≤ rowLength
     → charged a (chargeWord amount days (p .rate)) ≡ withCommitment a (a .commitment + charge amount days (p .rate))
 charged-by a p amount days a-ok p-ok m n =
-    let r : p .rate ≤ mostRate = ⊎-elim (λ (c : Closed p). omega (arith, c .rate)) (λ (c : Open p). c .rate) (point-is p p-ok) in
+    let r = rate-le p p-ok in
     ap (charged a) (charge-in amount days (p .rate) m n r)
     ∙ charged-in a (charge amount days (p .rate)) (omega (arith, commitment-le a a-ok, guarantee-le a a-ok)) (charge-bound amount days (p .rate) m n r)
 

@@ -17,7 +17,7 @@ use Rattle.requests.specs.declared.products.Request.{Request}
 use Rattle.requests.specs.declared.requesting.Decision.the-variants.{Grant, Refuse}
 use Rattle.requests.specs.Products.{isOffered, isInTime}
 use Rattle.requests.specs.RequestCapacity.{spanFirst, spanLast, daysAsked, spanPlace, chargeAsked, freeThroughout, requestQuestions, requestNumber, amountGranted, requestAmount, grantOf, conferred, requestAfter}
-use Rattle.requests.specs.Steps.{Decides, Bookable}
+use Rattle.requests.specs.Steps.{Decides, Decided}
 use Rattle.requests.proofs.RequestLaws.{FieldFacts, fields}
 
 module _ (s : State) (q : Request) where
@@ -63,7 +63,7 @@ module _ (s : State) (q : Request) where
     unfolding requestNumber
     accepted = d .0
 
-    pub bookable : Bookable (s .register) q first last amount
+    pub bookable : Decided (s .register) q first last amount
     bookable =
         let w = facts accepted in
         record {

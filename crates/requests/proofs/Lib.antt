@@ -1,3 +1,4 @@
 pub mod ProductLaws
 pub mod RequestLaws
 pub mod AnswerLaws
+pub mod ConferredLaws

@@ -35,7 +35,7 @@ use Rattle.requests.specs.declared.requesting.Decision.{Decision}
 use Rattle.requests.specs.declared.requesting.Decision.the-variants.{Grant, Refuse}
 use Rattle.requests.specs.Products.{kindOf, monthOk}
 use Rattle.requests.specs.RequestCapacity.{requestFields, spanFirst, spanLast, daysAsked, spanPlace, chargeAsked, isFree, freeThroughout, amountGranted, grantOf}
-use Rattle.requests.specs.Steps.{spanAnswer, Decides, Ready, Spanned, Bookable}
+use Rattle.requests.specs.Steps.{spanAnswer, Decides, Ready, Spanned, Decided}
 
 -- ---- question 2
 pub record FieldFacts (q : Request) : Type 0 where
@@ -138,7 +138,7 @@ decides-too qs rs r f q (Grant first last amount) e h = (sym e ∙ h .0, h .1)
 decides-too qs rs r f q (Refuse why) e h = h ∙ e
 
 -- the register and the lists as the code leaves them
-pub booked-is : (r : Register) (q : Request) (f ls : List ℕ) (first last amount : ℕ) → Bookable r q first last amount
+pub booked-is : (r : Register) (q : Request) (f ls : List ℕ) (first last amount : ℕ) → Decided r q first last amount
     → (place cost : ℕ) (rc rv : Register) (g m : List ℕ) (l : Line)
     → place ≡ entryOf (r .year) (q .point) first
     → g ≡ taken f place (spanDays first last) amount

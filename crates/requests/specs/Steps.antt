@@ -56,7 +56,7 @@ pub record Spanned (r : Register) (q : Request) (first last : ℕ) : Type 0 wher
   pub fits : spanOk (r .year) (q .arrival) (spanFirst r q) (spanLast r q) ≡ true
 
 -- what is known once an amount is granted
-pub record Bookable (r : Register) (q : Request) (first last amount : ℕ) : Type 0 where
+pub record Decided (r : Register) (q : Request) (first last amount : ℕ) : Type 0 where
   pub point : q .point < pointCount
   pub user : q .user < userCount
   pub span : Spanned r q first last

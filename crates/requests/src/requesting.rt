@@ -10,7 +10,7 @@ ghost use Rattle.calendar.specs.ThermalYears.{inThermalYear};
 ghost use Rattle.conferral.specs.Bookings.{line, booked};
 ghost use Rattle.requests.specs.Products.{kindOf};
 ghost use Rattle.requests.specs.RequestCapacity.{numberOfConferral, amountOfConferral, requestFields, spanQuestions, amountQuestions, requestQuestions, requestNumber, requestAmount, grantOf, requestAfter};
-ghost use Rattle.requests.specs.Steps.{Ready, Spanned, Decides, Bookable};
+ghost use Rattle.requests.specs.Steps.{Ready, Spanned, Decides, Decided};
 use crate::answers::Conferral;
 use crate::answers::Conferred;
 use crate::products::Request;
@@ -146,7 +146,7 @@ fn book(
     last: u16,
     amount: u32,
 ) -> Register
-    requires { ⌜ Bookable r q first last amount ⌝ }
+    requires { ⌜ Decided r q first last amount ⌝ }
     ensures { λ v. ⌜ state v (now (free .exit)) (now (ledger .exit)) ≡ booked (state r (now (free .entry)) (now (ledger .entry))) (grantOf r q amount) ⌝ }
 {
     let p = r.points[q.point as usize];
