@@ -2,3 +2,4 @@ pub mod ProductLaws
 pub mod RequestLaws
 pub mod AnswerLaws
 pub mod ConferredLaws
+pub mod Cases
