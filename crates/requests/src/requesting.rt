@@ -62,13 +62,13 @@ fn decide_amount(r: Register, free: &[u32], q: Request, first: u16, last: u16) -
     let p = r.points[q.point as usize];
     let a = r.accounts[q.user as usize];
     let days = last + 1 - first;
+    let places = days as usize;
     let asked = q.amount as u32;
-    // The guarantee is asked to cover the amount before it is cut.
+    let amount = register::least_free(free, place_of(r.year, q.point, first), places, asked);
+    // The guarantee has to cover what is asked, not only what is granted.
     if !conferral::is_covered(a, register::charge_of(asked, days, p.rate)) {
         return Decision::Refuse(Refusal::NotCovered);
     }
-    let place = place_of(r.year, q.point, first);
-    let amount = register::least_free(free, place, days as usize, asked);
     if amount == 0 {
         return Decision::Refuse(Refusal::NothingFree);
     }
@@ -151,12 +151,8 @@ fn book(
 {
     let p = r.points[q.point as usize];
     let days = last + 1 - first;
-    register::take_free(
-        free,
-        place_of(r.year, q.point, first),
-        days as usize,
-        amount,
-    );
+    let places = days as usize;
+    register::take_free(free, place_of(r.year, q.point, first), places, amount);
     let charged = conferral::charge_user(r, q.user, register::charge_of(amount, days, p.rate));
     conferral::add_line(charged, ledger, line_of(q, first, amount))
 }
@@ -169,10 +165,13 @@ pub fn request_capacity(r: Register, free: &mut [u32], ledger: &mut [u32], q: Re
 {
     let decision = decide(r, &free[..], &ledger[..], q);
     match decision {
-        Decision::Grant(first, last, amount) => Conferred {
-            register: book(r, free, ledger, q, first, last, amount),
-            answer: Conferral::Granted(amount),
-        },
+        Decision::Grant(first, last, amount) => {
+            let booked = book(r, free, ledger, q, first, last, amount);
+            Conferred {
+                register: booked,
+                answer: Conferral::Granted(amount),
+            }
+        }
         Decision::Refuse(why) => Conferred {
             register: r,
             answer: Conferral::Refused(why),

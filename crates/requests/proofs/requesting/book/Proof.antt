@@ -34,13 +34,13 @@ add-days c = let st = c .before .before .before .before in let s = of-span st in
 sub-days : tie.Need-sub-days
 sub-days c = let s = of-span (c .before .before .before .before) in omega (arith, s .ordered)
 
+cast-places : tie.Need-cast-places
+cast-places c = search needs
+
 place-of-requires : tie.Need-place-of-requires
 place-of-requires c κs =
     let s = of-span (c .before .before .before .before .before) in
     both _ _ (s .year) (is-between _ _ _ (s .begins) (omega (arith, s .ordered, s .ends)))
-
-cast-take-free : tie.Need-cast-take-free
-cast-take-free c = search needs
 
 take-free-requires : tie.Need-take-free-requires
 take-free-requires c κs = search needs
@@ -87,8 +87,8 @@ book-spec =
     element-copy-out-p
     add-days
     sub-days
+    cast-places
     place-of-requires
-    cast-take-free
     take-free-requires
     charge-of-requires
     charge-user-requires
