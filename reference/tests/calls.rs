@@ -1,6 +1,7 @@
 //! The script of the program `calls`: the steps written by hand have the answers
 //! that stand beside them, and the random stream is of use.
 
+use reference::request::{Product, Request};
 use reference::script::{by_hand, lines, random, steps, Answer, Host, Step};
 
 #[test]
@@ -17,17 +18,18 @@ fn the_steps_by_hand_are_answered_as_written() {
     }
 }
 
-/// A refused call alters nothing.
+/// A refused call alters nothing, and a report never does. A fresh register that
+/// is refused has the year 0.
 #[test]
 fn a_refused_call_leaves_everything() {
     let mut host = Host::default();
     for step in steps() {
         let before = host.clone();
-        match (step, host.run(step)) {
-            (Step::Fresh { .. }, Answer::Number(1..)) => {}
-            (_, Answer::Number(1..) | Answer::Report(..)) => {
-                assert!(host == before, "{step}");
-            }
+        let is_refused = host.run(step).number().is_some_and(|number| number > 0);
+        match step {
+            Step::Fresh { .. } => {}
+            Step::Report { .. } => assert!(host == before, "{step}"),
+            _ if is_refused => assert!(host == before, "{step}"),
             _ => {}
         }
     }
@@ -39,10 +41,8 @@ fn the_stream_has_every_answer_often() {
     let mut host = Host::default();
     let mut answers = Vec::new();
     for step in random::stream(host.clone()) {
-        match (step, host.run(step)) {
-            (step, Answer::Number(number)) => answers.push((step.record()[0], number)),
-            (step, Answer::Report(number, _)) => answers.push((step.record()[0], number)),
-            (_, Answer::None) => {}
+        if let Some(number) = host.run(step).number() {
+            answers.push((step.letter(), number));
         }
     }
     let count = |letter: u8, number: u8| {
@@ -79,6 +79,38 @@ fn the_stream_has_every_answer_often() {
             letter as char
         );
     }
+}
+
+/// The words of a record, and how a step is printed.
+#[test]
+fn a_request_is_recorded_and_printed() {
+    let request = |product| {
+        Step::Request(Request {
+            user: 5,
+            point: 31,
+            product,
+            arrival: 8_699,
+            amount: (1 << 32) + 600,
+        })
+    };
+    let words = |step: Step| -> Vec<u32> {
+        let record = step.record();
+        let words = record.chunks_exact(4);
+        words
+            .map(|word| u32::from_le_bytes(word.try_into().unwrap()))
+            .collect()
+    };
+    for (product, kind, number, text) in [
+        (Product::Annual, 1, 0, "annual"),
+        (Product::Month(12), 2, 12, "month 12"),
+        (Product::Day(8_700), 3, 8_700, "day 8700"),
+    ] {
+        let step = request(product);
+        assert_eq!(words(step), [82, 31, kind, number, 8_699, 600, 1, 5]);
+        let printed = format!("request 5 31 {text} 8699 4294967896");
+        assert_eq!(step.to_string(), printed);
+    }
+    assert_eq!(Answer::Amount(0, 600).to_string(), " -> 0 600");
 }
 
 #[test]

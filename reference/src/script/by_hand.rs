@@ -59,11 +59,11 @@ impl Cases {
 
     /// A report that is refused: the amount is 0.
     fn no_report(&mut self, why: &str, point: u8, day: u16, number: u8) {
-        self.push(why, Step::Report { point, day }, Answer::Report(number, 0));
+        self.push(why, Step::Report { point, day }, Answer::Amount(number, 0));
     }
 
     fn report(&mut self, why: &str, point: u8, day: u16, amount: u32) {
-        self.push(why, Step::Report { point, day }, Answer::Report(0, amount));
+        self.push(why, Step::Report { point, day }, Answer::Amount(0, amount));
     }
 
     fn set(&mut self, why: &str, field: Field, value: u64) {
