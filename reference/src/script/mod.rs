@@ -3,7 +3,7 @@
 //! A step is a call, or writes one number of the register, of the lists that
 //! are lent or of their lengths, or copies a line: what a faulty host could do.
 //! The script has two parts: steps written by hand, with the answers that
-//! document 01 gives them, and a random stream.
+//! document 01 gives them, and random sequences.
 //!
 //! In the script a step is a record of eight words of 32 bits, little-endian:
 //!
@@ -451,7 +451,7 @@ pub fn steps() -> Vec<Step> {
     for &step in &steps {
         host.run(step);
     }
-    steps.extend(random::stream(host));
+    steps.extend(random::sequences(host).concat());
     steps
 }
 
