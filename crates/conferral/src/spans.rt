@@ -1,0 +1,47 @@
+// When a call may arrive, and the span to the year's end.
+ghost use mathlib.Core.Path.{_≡_};
+ghost use Rattle.conferral.specs.Spans.{arrives, annualAnswer, spanFrom};
+use calendar::GasDay;
+use calendar::Span;
+
+// The days of September, the month before a thermal year.
+const SEPTEMBER: u16 = 30;
+
+// Whether a day lies from 1 September Y to 30 September Y+1.
+pub fn is_arrival(year: u16, arrival: u16) -> bool
+    ensures { λ v. ⌜ v ≡ arrives year arrival ⌝ }
+{
+    let span = calendar::thermal_year(year);
+    match span {
+        Span::Days(first, last) => (first - SEPTEMBER <= arrival) & (arrival <= last),
+        Span::OutsideCalendar => false,
+    }
+}
+
+// From a day to the last of those from first to last, where it is one of them.
+fn span_from(day: GasDay, first: u16, last: u16) -> Span
+    ensures { λ v. ⌜ v ≡ spanFrom day first last ⌝ }
+{
+    match day {
+        GasDay::Day(d) => {
+            if (first <= d) & (d <= last) {
+                Span::Days(d, last)
+            } else {
+                Span::OutsideCalendar
+            }
+        }
+        GasDay::OutsideCalendar => Span::OutsideCalendar,
+    }
+}
+
+// From the first of the month after arrival to the year's end, where that is a span of the year.
+pub fn annual_span(year: u16, arrival: u16) -> Span
+    ensures { λ v. ⌜ v ≡ annualAnswer year arrival ⌝ }
+{
+    let span = calendar::thermal_year(year);
+    let next = calendar::next_first(arrival);
+    match span {
+        Span::Days(first, last) => span_from(next, first, last),
+        Span::OutsideCalendar => Span::OutsideCalendar,
+    }
+}

@@ -1,0 +1,51 @@
+-- Document 01, "The changing calls": "A request is annual, or for a numbered month, or for a numbered gas-day."
+-- Assumes nothing.
+use Prim.Native.Nat.{ℕ}
+use mathlib.Core.Bool.{Bool, true, not}
+use lib.Dec.{ltb, eqb}
+use Rattle.calendar.specs.Days.{between}
+use Rattle.calendar.specs.ThermalYears.{thermalLast, thermalMonthFirst, thermalMonthLast}
+use Rattle.calendar.specs.Deadlines.{nextFirst, inTimeOwn, inTimePreceding}
+use Rattle.register.specs.declared.points.Point.{Point}
+use Rattle.requests.specs.declared.products.Product.{Product}
+use Rattle.requests.specs.declared.products.Product.the-variants.{Annual, Month, Day}
+
+-- the kind of its ledger line: "1 annual, 2 month, 3 day"
+abbrev pub kindOf : Product → ℕ
+kindOf Annual = 1
+kindOf (Month m) = 2
+kindOf (Day d) = 3
+
+-- "An annual one spans the first of the month after arrival to the year's end.": the first and the last day in thermal year Y of
+-- what arrives on day a
+abbrev pub firstOf : ℕ → ℕ → Product → ℕ
+firstOf y a Annual = nextFirst a
+firstOf y a (Month m) = thermalMonthFirst y m
+firstOf y a (Day d) = d
+
+abbrev pub lastOf : ℕ → ℕ → Product → ℕ
+lastOf y a Annual = thermalLast y
+lastOf y a (Month m) = thermalMonthLast y m
+lastOf y a (Day d) = d
+
+-- question 2: "month 1 to 12"
+abbrev pub monthOk : Product → Bool
+monthOk Annual = true
+monthOk (Month m) = between 1 12 m
+monthOk (Day d) = true
+
+-- question 7: "Is the kind offered? Direct points take annual requests only."
+abbrev pub isDirect : Point → Bool
+isDirect p = eqb (p .kind) 1
+
+abbrev pub isOffered : Point → Product → Bool
+isOffered p Annual = true
+isOffered p (Month m) = not (isDirect p)
+isOffered p (Day d) = not (isDirect p)
+
+-- question 9: "Annual: by the 11th working day of the arrival month. Monthly: by the 11th working day of the preceding month. Daily:
+-- before the gas-day."
+abbrev pub isInTime : ℕ → ℕ → Product → Bool
+isInTime y a Annual = inTimeOwn a 11
+isInTime y a (Month m) = inTimePreceding a y m 11
+isInTime y a (Day d) = ltb a d

@@ -1,0 +1,116 @@
+-- Document 01, "The changing calls": request.
+-- Assumes nothing.
+use Prim.Native.Nat.{ℕ, _+_}
+use mathlib.Core.Bool.{Bool, _&&_}
+use mathlib.Core.List.{List, [], _∷_}
+use lib.Dec.{ltb}
+use lib.ListN.{getD}
+use Rattle.calendar.specs.Days.{between}
+use Rattle.register.specs.declared.answers.Refusal.{Refusal}
+use Rattle.register.specs.declared.registers.Register.{Register}
+use Rattle.register.specs.Limits.{pointCount, userCount, mostAmount}
+use Rattle.register.specs.Tests.{allBelow}
+use Rattle.register.specs.Ranges.{leastOf}
+use Rattle.register.specs.Registers.{State, pointAt, accountAt}
+use Rattle.register.specs.Amounts.{spanDays, entryOf}
+use Rattle.register.specs.Charges.{charge}
+use Rattle.register.specs.Order.{isOpen, isOnFile, inOrder}
+use Rattle.register.specs.Answers.{numberOfRefusal, Question, _asks_, numberOf, leaves}
+use Rattle.conferral.specs.Spans.{spanOk}
+use Rattle.conferral.specs.Bookings.{covers, linesLeft, Grant, booked}
+use Rattle.requests.specs.declared.products.Request.{Request}
+use Rattle.requests.specs.declared.answers.Conferral.{Conferral}
+use Rattle.requests.specs.declared.answers.Conferral.the-variants.{Granted, Refused}
+use Rattle.requests.specs.Products.{kindOf, firstOf, lastOf, monthOk, isOffered, isInTime}
+
+-- the number and the amount of an answer: where the answer is no, "grant [..] 0"
+abbrev pub numberOfConferral : Conferral → ℕ
+numberOfConferral (Granted a) = 0
+numberOfConferral (Refused n) = numberOfRefusal n
+
+abbrev pub amountOfConferral : Conferral → ℕ
+amountOfConferral (Granted a) = a
+amountOfConferral (Refused n) = 0
+
+-- question 2: "point 0 to 31, users 0 to 63, [..] amount [..] 1 to 9,999,999, month 1 to 12"
+abbrev pub requestFields : Request → Bool
+requestFields q =
+    ltb (q .point) pointCount && ltb (q .user) userCount && between 1 mostAmount (q .amount) && monthOk (q .product)
+
+-- the span: its first day, its last day, how many days, and the place of its first day in the table
+abbrev pub spanFirst : Register → Request → ℕ
+spanFirst r q = firstOf (r .year) (q .arrival) (q .product)
+
+abbrev pub spanLast : Register → Request → ℕ
+spanLast r q = lastOf (r .year) (q .arrival) (q .product)
+
+abbrev pub daysAsked : Register → Request → ℕ
+daysAsked r q = spanDays (spanFirst r q) (spanLast r q)
+
+abbrev pub spanPlace : Register → Request → ℕ
+spanPlace r q = entryOf (r .year) (q .point) (spanFirst r q)
+
+-- question 11: "commitment plus charge of the asked amount"
+abbrev pub chargeAsked : Register → Request → ℕ
+chargeAsked r q = charge (q .amount) (daysAsked r q) (pointAt (r .points) (q .point) .rate)
+
+-- question 12: "Is anything free on every day of a request's span?"
+abbrev pub isFree : List ℕ → ℕ → ℕ → Bool
+isFree f at k = ltb 0 (getD f (at + k) 0)
+
+abbrev pub freeThroughout : Register → List ℕ → Request → Bool
+freeThroughout r f q = allBelow (daysAsked r q) (isFree f (spanPlace r q))
+
+-- questions 11, 12 and 13
+abbrev pub amountQuestions : Register → List ℕ → Request → List Question
+amountQuestions r f q =
+    11 asks covers (accountAt (r .accounts) (q .user)) (chargeAsked r q)
+    ∷ 12 asks freeThroughout r f q
+    ∷ 13 asks linesLeft r 1
+    ∷ []
+
+-- questions 8 and 9, then these
+abbrev pub spanQuestions : Register → List ℕ → Request → List Question
+spanQuestions r f q =
+    8 asks spanOk (r .year) (q .arrival) (spanFirst r q) (spanLast r q)
+    ∷ 9 asks isInTime (r .year) (q .arrival) (q .product)
+    ∷ amountQuestions r f q
+
+-- questions 1, 2, 3, 5 and 7, then these
+abbrev pub requestQuestions : State → Request → List Question
+requestQuestions s q =
+    1 asks inOrder s
+    ∷ 2 asks requestFields q
+    ∷ 3 asks isOpen (pointAt (s .register .points) (q .point))
+    ∷ 5 asks isOnFile (accountAt (s .register .accounts) (q .user))
+    ∷ 7 asks isOffered (pointAt (s .register .points) (q .point)) (q .product)
+    ∷ spanQuestions (s .register) (s .free) q
+
+unfoldable pub requestNumber : State → Request → ℕ
+requestNumber s q = numberOf (requestQuestions s q)
+
+-- "Granted is the asked amount, or the smallest free amount of the span if that is less."
+unfoldable pub amountGranted : Register → List ℕ → Request → ℕ
+amountGranted r f q = leastOf f (spanPlace r q) (daysAsked r q) (q .amount)
+
+unfoldable pub requestAmount : State → Request → ℕ
+requestAmount s q = leaves (requestNumber s q) (amountGranted (s .register) (s .free) q) 0
+
+-- the grant of an accepted request
+abbrev pub grantOf : Register → Request → ℕ → Grant
+grantOf r q amount =
+    record {
+      user = q .user;
+      point = q .point;
+      kind = kindOf (q .product);
+      first = spanFirst r q;
+      last = spanLast r q;
+      amount = amount;
+    }
+
+-- "The grant is taken from each of those days, its charge joins the commitment, one line is written."
+unfoldable pub conferred : State → Request → State
+conferred s q = booked s (grantOf (s .register) q (amountGranted (s .register) (s .free) q))
+
+unfoldable pub requestAfter : State → Request → State
+requestAfter s q = leaves (requestNumber s q) (conferred s q) s
