@@ -1,18 +1,21 @@
--- Laws of charges and lines that are booked.
+-- Laws of charges that are covered.
 -- Assumes nothing.
-use mathlib.Core.Path.{_≡_, refl, sym, ap, _∙_}
-use Prim.Native.Nat.{ℕ, _≤_}
+use mathlib.Core.Path.{_≡_, refl, sym}
 use mathlib.Core.Bool.{Bool, true, false}
+use mathlib.Core.Logic.{⊎-elim}
+use Prim.Native.Nat.{ℕ, _≤_}
 use native.Mathlib.Omega.{arith}
 use lib.Dec.{leb}
 use borrow.Author.Tests.{leb-true, leb-false, le-leb}
-use lib.ListN.{set, length}
-use lib.Seq.{set-out}
-use Rattle.register.specs.declared.accounts.Account.{Account}
-use Rattle.register.specs.declared.registers.Register.{Register}
-use Rattle.register.specs.Registers.{accountAt, withAccounts}
-use Rattle.register.specs.Charges.{charged}
-use Rattle.conferral.specs.Bookings.{withCharge}
+use Rattle.register.specs.declared.points.Point.{Point}
+use Rattle.register.specs.Limits.{mostRate}
+use Rattle.register.specs.Order.{pointOk}
+use Rattle.register.proofs.OrderFacts.{Closed, Open, point-is}
+
+-- a rate is within its limit, at a closed point too
+pub rate-le : (p : Point) → pointOk p ≡ true → p .rate ≤ mostRate
+rate-le p h =
+    ⊎-elim (λ (e : Closed p). omega (arith, e .rate)) (λ (e : Open p). e .rate) (point-is p h)
 
 -- tests that hold of the same numbers are the same
 pub same-leb : (a b c d : ℕ) → (a ≤ b → c ≤ d) → (c ≤ d → a ≤ b) → leb a b ≡ leb c d

@@ -1,2 +1,3 @@
 pub mod SpanLaws
 pub mod BookingLaws
+pub mod BookedLaws

@@ -1,0 +1,3 @@
+pub mod ProductLaws
+pub mod RequestLaws
+pub mod AnswerLaws

@@ -10,7 +10,7 @@ use Rattle.calendar.specs.declared.thermal_years.Span.{Span}
 use Rattle.calendar.specs.declared.deadlines.Timeliness.{Timeliness}
 use Rattle.calendar.specs.declared.deadlines.Timeliness.the-variants.{InTime, Late, OutsideCalendar as NoDeadline}
 use Rattle.register.specs.declared.registers.Register.{Register}
-use Rattle.register.specs.Limits.{pointCount, tableLength, mostAmount, mostRate}
+use Rattle.register.specs.Limits.{pointCount, userCount, tableLength, mostAmount, mostRate}
 use Rattle.register.specs.Registers.{State, pointAt}
 use Rattle.register.specs.Answers.{numberOfRefusal, Question, numberOf}
 use Rattle.conferral.specs.Spans.{spanOk, spanWhere}
@@ -49,11 +49,16 @@ pub record Ready (r : Register) (f : List ℕ) (q : Request) : Type 0 where
   pub rate : pointAt (r .points) (q .point) .rate ≤ mostRate
   pub fields : requestFields q ≡ true
 
--- and once an amount is granted
-pub record Bookable (r : Register) (q : Request) (first last amount : ℕ) : Type 0 where
-  pub point : q .point < pointCount
+-- first and last are the first and the last day of the span, and question 8 is answered yes
+pub record Spanned (r : Register) (q : Request) (first last : ℕ) : Type 0 where
   pub begins : first ≡ spanFirst r q
   pub ends : last ≡ spanLast r q
-  pub span : spanOk (r .year) (q .arrival) (spanFirst r q) (spanLast r q) ≡ true
+  pub fits : spanOk (r .year) (q .arrival) (spanFirst r q) (spanLast r q) ≡ true
+
+-- what is known once an amount is granted
+pub record Bookable (r : Register) (q : Request) (first last amount : ℕ) : Type 0 where
+  pub point : q .point < pointCount
+  pub user : q .user < userCount
+  pub span : Spanned r q first last
   pub most : amount ≤ mostAmount
   pub lines : linesLeft r 1 ≡ true

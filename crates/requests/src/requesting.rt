@@ -7,11 +7,10 @@ ghost use Rattle.register.specs.Limits.{mostAmount};
 ghost use Rattle.register.specs.Registers.{state};
 ghost use Rattle.register.specs.Amounts.{entryOf};
 ghost use Rattle.calendar.specs.ThermalYears.{inThermalYear};
-ghost use Rattle.conferral.specs.Spans.{spanOk};
 ghost use Rattle.conferral.specs.Bookings.{line, booked};
 ghost use Rattle.requests.specs.Products.{kindOf};
-ghost use Rattle.requests.specs.RequestCapacity.{numberOfConferral, amountOfConferral, requestFields, spanFirst, spanLast, spanQuestions, amountQuestions, requestQuestions, requestNumber, requestAmount, grantOf, requestAfter};
-ghost use Rattle.requests.specs.Steps.{Ready, Decides, Bookable};
+ghost use Rattle.requests.specs.RequestCapacity.{numberOfConferral, amountOfConferral, requestFields, spanQuestions, amountQuestions, requestQuestions, requestNumber, requestAmount, grantOf, requestAfter};
+ghost use Rattle.requests.specs.Steps.{Ready, Spanned, Decides, Bookable};
 use crate::answers::Conferral;
 use crate::answers::Conferred;
 use crate::products::Request;
@@ -57,7 +56,7 @@ fn place_of(year: u16, point: u8, day: u16) -> usize
 
 // Questions 11, 12 and 13 of the days from first to last.
 fn decide_amount(r: Register, free: &[u32], q: Request, first: u16, last: u16) -> Decision
-    requires { ⌜ Ready r (now free) q × ((first ≡ spanFirst r q) × ((last ≡ spanLast r q) × (spanOk (r .year) (q .arrival) first last ≡ true))) ⌝ }
+    requires { ⌜ Ready r (now free) q × Spanned r q first last ⌝ }
     ensures { λ d. ⌜ Decides (amountQuestions r (now (free .entry)) q) r (now (free .entry)) q d ⌝ }
 {
     let p = r.points[q.point as usize];

@@ -1,3 +1,4 @@
+use mathlib.Core.Path.{sym, _∙_}
 use native.Mathlib.Omega.{arith}
 use borrow.Author.Needs.{needs}
 use Rattle.requests.proofs.products.day_span.Statement.{statement}
@@ -6,17 +7,14 @@ use Rattle.requests.proofs.products.day_span.Reads as reads
 use Rattle.requests.proofs.products.day_span.Lts as lts
 use Rattle.calendar.proofs.in_thermal_year.Reads as in-thermal-year-reads
 
--- src/products.rt:67:8
 in-thermal-year-requires : tie.Need-in-thermal-year-requires
 in-thermal-year-requires c κs = search needs
 
--- src/products.rt:68:9
 returns : tie.Need-returns
-returns c = ?
+returns c = rw (sym (c .before .in-thermal-year .ensures) ∙ c .if1 .taken)
 
--- src/products.rt:64:1
 returns-2 : tie.Need-returns-2
-returns-2 c = ?
+returns-2 c = rw (sym (c .before .in-thermal-year .ensures) ∙ c .if1 .left)
 
 pub day-span-spec : {M : Type 1} → statement M
 day-span-spec = tie.close (tie.spec in-thermal-year-requires returns returns-2)

@@ -5,27 +5,21 @@ use Rattle.requests.proofs.products.is_month_within_limits.Tie as tie
 use Rattle.requests.proofs.products.is_month_within_limits.Reads as reads
 use Rattle.requests.proofs.products.is_month_within_limits.Lts as lts
 
--- src/products.rt:46:28
 enum-told : tie.Need-enum-told
 enum-told c = search needs
 
--- src/products.rt:47:24
 enum-known-product : tie.Need-enum-known-product
 enum-known-product c = search needs
 
--- src/products.rt:48:28
 enum-told-2 : tie.Need-enum-told-2
 enum-told-2 c = search needs
 
--- src/products.rt:42:1
 returns : tie.Need-returns
 returns c = search needs
 
--- src/products.rt:42:1
 returns-2 : tie.Need-returns-2
-returns-2 c = ?
+returns-2 c = rw (c .before .product .given .1)
 
--- src/products.rt:42:1
 returns-3 : tie.Need-returns-3
 returns-3 c = search needs
 

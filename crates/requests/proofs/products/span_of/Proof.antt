@@ -1,3 +1,8 @@
+use mathlib.Core.Path.{_≡_, sym, _∙_}
+use mathlib.Core.Bool.{true}
+use borrow.Author.Tests.{not-true, not-false}
+use Rattle.conferral.specs.Spans.{arrives}
+use Rattle.requests.proofs.ProductLaws.{no-arrival, annual-span, month-span, day-span}
 use native.Mathlib.Omega.{arith}
 use borrow.Author.Needs.{needs}
 use Rattle.requests.proofs.products.span_of.Statement.{statement}
@@ -9,49 +14,49 @@ use Rattle.conferral.proofs.annual_span.Reads as annual-span-reads
 use Rattle.conferral.proofs.is_arrival.Reads as is-arrival-reads
 use Rattle.requests.proofs.products.day_span.Reads as day-span-reads
 
--- src/products.rt:78:9
+-- the arrival is one of the year's
+arrived : (c : tie.Else1) → (let a = c .before .before .args in arrives (a .year) (a .arrival) ≡ true)
+arrived c = sym (c .before .is-arrival .ensures) ∙ not-false _ (c .if1 .left)
+
 is-arrival-requires : tie.Need-is-arrival-requires
 is-arrival-requires c κs = search needs
 
--- src/products.rt:79:9
 returns : tie.Need-returns
-returns c = ?
+returns c = no-arrival _ _ _ (sym (c .before .is-arrival .ensures) ∙ not-true _ (c .if1 .taken))
 
--- src/products.rt:82:28
 enum-told : tie.Need-enum-told
 enum-told c = search needs
 
--- src/products.rt:82:28
 annual-span-requires : tie.Need-annual-span-requires
 annual-span-requires c κs = search needs
 
--- src/products.rt:83:24
 enum-known-product : tie.Need-enum-known-product
 enum-known-product c = search needs
 
--- src/products.rt:83:34
 thermal-month-requires : tie.Need-thermal-month-requires
 thermal-month-requires c κs = search needs
 
--- src/products.rt:84:22
 enum-known-product-2 : tie.Need-enum-known-product-2
 enum-known-product-2 c = search needs
 
--- src/products.rt:84:30
 day-span-requires : tie.Need-day-span-requires
 day-span-requires c κs = search needs
 
--- src/products.rt:74:1
 returns-2 : tie.Need-returns-2
-returns-2 c = ?
+returns-2 c =
+    let e = c .before in
+    c .annual-span .ensures ∙ annual-span _ _ _ (e .enum-told .given .1) (arrived (e .before .before))
 
--- src/products.rt:74:1
 returns-3 : tie.Need-returns-3
-returns-3 c = ?
+returns-3 c =
+    let e = c .before .before in
+    let b = e .before .before in
+    c .thermal-month .ensures ∙ month-span _ _ _ _ (e .product .given .1) (arrived b) (b .before .before .pre)
 
--- src/products.rt:74:1
 returns-4 : tie.Need-returns-4
-returns-4 c = ?
+returns-4 c =
+    let e = c .before .before in
+    c .day-span .ensures ∙ day-span _ _ _ _ (e .product2 .given .1) (arrived (e .before .before))
 
 pub span-of-spec : {M : Type 1} → statement M
 span-of-spec =

@@ -1,3 +1,7 @@
+use Rattle.calendar.proofs.Ranges.{both, is-between}
+use Rattle.register.proofs.CalendarLaws.{year-facts}
+use Rattle.conferral.proofs.SpanLaws.{SpanFacts}
+use Rattle.requests.proofs.RequestLaws.{span-in, booked-is}
 use native.Mathlib.Omega.{arith}
 use borrow.Author.Needs.{needs}
 use Rattle.requests.proofs.requesting.book.Statement.{statement}
@@ -11,65 +15,68 @@ use Rattle.register.proofs.charge_of.Reads as charge-of-reads
 use Rattle.requests.proofs.requesting.line_of.Reads as line-of-reads
 use Rattle.requests.proofs.requesting.place_of.Reads as place-of-reads
 
--- src/requesting.rt:153:22
+-- what is known of the span
+of-span : (c : tie.Start) → (let a = c .args in SpanFacts (a .t1 .year) (a .q .arrival) (a .first) (a .last))
+of-span c = span-in (c .args .t1) (c .args .q) _ _ (c .pre .span)
+
 cast-p : tie.Need-cast-p
 cast-p c = search needs
 
--- src/requesting.rt:153:13
 mul-p : tie.Need-mul-p
 mul-p c = search needs
 
--- src/requesting.rt:153:13
 element-copy-out-p : tie.Need-element-copy-out-p
 element-copy-out-p c = search needs
 
--- src/requesting.rt:154:16
 add-days : tie.Need-add-days
-add-days c = search needs
+add-days c = let st = c .before .before .before .before in let s = of-span st in omega (arith, s .ends, year-facts (st .args .t1 .year) (s .year) .last)
 
--- src/requesting.rt:154:16
 sub-days : tie.Need-sub-days
-sub-days c = search needs
+sub-days c = let s = of-span (c .before .before .before .before) in omega (arith, s .ordered)
 
--- src/requesting.rt:157:9
 place-of-requires : tie.Need-place-of-requires
-place-of-requires c κs = search needs
+place-of-requires c κs =
+    let s = of-span (c .before .before .before .before .before) in
+    both _ _ (s .year) (is-between _ _ _ (s .begins) (omega (arith, s .ordered, s .ends)))
 
--- src/requesting.rt:158:9
 cast-take-free : tie.Need-cast-take-free
 cast-take-free c = search needs
 
--- src/requesting.rt:155:5
 take-free-requires : tie.Need-take-free-requires
 take-free-requires c κs = search needs
 
--- src/requesting.rt:161:53
 charge-of-requires : tie.Need-charge-of-requires
 charge-of-requires c κs = search needs
 
--- src/requesting.rt:161:9
 charge-user-requires : tie.Need-charge-user-requires
 charge-user-requires c κs = search needs
 
--- src/requesting.rt:162:42
 line-of-requires : tie.Need-line-of-requires
 line-of-requires c κs = search needs
 
--- src/requesting.rt:162:5
 add-line-requires : tie.Need-add-line-requires
 add-line-requires c κs = search needs
 
--- src/requesting.rt:141:1
 same-length : tie.Need-same-length
 same-length c = search needs
 
--- src/requesting.rt:141:1
 same-length-2 : tie.Need-same-length-2
 same-length-2 c = search needs
 
--- src/requesting.rt:141:1
 returns : tie.Need-returns
-returns c = ?
+returns c =
+    let k = c .before .before in
+    let u = k .before .before .before in
+    let t = u .before .before .before .before in
+    let st = c .before .before .before .before .before .before .before .before .before .before .before .before .before .before .before .before in
+    booked-is (st .args .t1) (st .args .q) _ _ _ _ _ (st .pre) _ _ _ _ _ _ _
+    (t .before .place-of .ensures)
+    (t .take-free .ensures)
+    (u .before .charge-of .ensures)
+    (u .charge-user .ensures)
+    (k .before .line-of .ensures)
+    (k .add-line .ensures .0)
+    (k .add-line .ensures .1)
 
 pub book-spec : {M : Type 1} → statement M
 book-spec =

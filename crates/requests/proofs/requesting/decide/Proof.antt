@@ -1,3 +1,10 @@
+use mathlib.Core.Path.{_≡_, sym, _∙_}
+use mathlib.Core.Bool.{true}
+use borrow.Author.Tests.{not-true, not-false}
+use Rattle.register.specs.Registers.{State, state, pointAt, accountAt}
+use Rattle.register.specs.Order.{isOpen, isOnFile, inOrder}
+use Rattle.requests.specs.RequestCapacity.{requestFields, spanQuestions, requestQuestions}
+use Rattle.requests.proofs.RequestLaws.{fields, ready, decides-too}
 use native.Mathlib.Omega.{arith}
 use borrow.Author.Needs.{needs}
 use Rattle.requests.proofs.requesting.decide.Statement.{statement}
@@ -11,77 +18,94 @@ use Rattle.requests.proofs.products.is_offered.Reads as is-offered-read
 use Rattle.requests.proofs.requesting.decide_span.Reads as decide-span-reads
 use Rattle.requests.proofs.requesting.fields_within_limits.Reads as fields-within-limits-reads
 
--- src/requesting.rt:104:9
+-- what is known after each question
+abbrev asked : tie.Start → State
+asked c = state (c .args .t1) (c .args .free .now) (c .args .ledger .now)
+
+one : (c : tie.Else1) → inOrder (asked (c .before .before .before .before)) ≡ true
+one c = sym (c .before .in-order .ensures) ∙ not-false _ (c .if1 .left)
+
+two : (c : tie.Else2) → requestFields (c .before .before .before .before .before .before .args .q) ≡ true
+two c = sym (c .before .fields-within-limits .ensures) ∙ not-false _ (c .if2 .left)
+
+three : (c : tie.Else3) → isOpen (pointAt (c .before .before .before .before .before .before .before .before .before .before .args .t1 .points) (c .before .before .before .before .before .before .before .before .before .before .args .q .point)) ≡ true
+three c = sym (c .before .is-open .ensures) ∙ not-false _ (c .if3 .left)
+
+five : (c : tie.Else4) → isOnFile (accountAt (c .before .before .before .before .before .before .before .before .before .before .before .before .before .before .args .t1 .accounts) (c .before .before .before .before .before .before .before .before .before .before .before .before .before .before .args .q .user)) ≡ true
+five c = sym (c .before .is-on-file .ensures) ∙ not-false _ (c .if4 .left)
+
 in-order-requires : tie.Need-in-order-requires
 in-order-requires c κs = search needs
 
--- src/requesting.rt:105:9
 returns : tie.Need-returns
-returns c = ?
+returns c = rw (sym (c .before .in-order .ensures) ∙ not-true _ (c .if1 .taken))
 
--- src/requesting.rt:107:9
 fields-within-limits-requires : tie.Need-fields-within-limits-requires
 fields-within-limits-requires c κs = search needs
 
--- src/requesting.rt:108:9
 returns-2 : tie.Need-returns-2
-returns-2 c = ?
+returns-2 c = rw (one (c .before .before), sym (c .before .fields-within-limits .ensures) ∙ not-true _ (c .if2 .taken))
 
--- src/requesting.rt:110:22
 cast-p : tie.Need-cast-p
 cast-p c = search needs
 
--- src/requesting.rt:110:13
 mul-p : tie.Need-mul-p
 mul-p c = search needs
 
--- src/requesting.rt:110:13
 element-copy-out-p : tie.Need-element-copy-out-p
-element-copy-out-p c = search needs
+element-copy-out-p c = fields (c .before .before .before .before .before .before .before .args .q) (two (c .before)) .point
 
--- src/requesting.rt:111:9
 is-open-requires : tie.Need-is-open-requires
 is-open-requires c κs = search needs
 
--- src/requesting.rt:112:9
 returns-3 : tie.Need-returns-3
-returns-3 c = ?
+returns-3 c =
+    let b = c .before .before .before .before in
+    rw (one (b .before .before), two b, sym (c .before .is-open .ensures) ∙ not-true _ (c .if3 .taken))
 
--- src/requesting.rt:114:24
 cast-a : tie.Need-cast-a
 cast-a c = search needs
 
--- src/requesting.rt:114:13
 mul-a : tie.Need-mul-a
 mul-a c = search needs
 
--- src/requesting.rt:114:13
 element-copy-out-a : tie.Need-element-copy-out-a
-element-copy-out-a c = search needs
+element-copy-out-a c = fields (c .before .before .before .before .before .before .before .before .before .before .before .args .q) (two (c .before .before .before .before .before)) .user
 
--- src/requesting.rt:115:9
 is-on-file-requires : tie.Need-is-on-file-requires
 is-on-file-requires c κs = search needs
 
--- src/requesting.rt:116:9
 returns-4 : tie.Need-returns-4
-returns-4 c = ?
+returns-4 c =
+    let d = c .before .before .before .before in
+    let b = d .before .before .before .before in
+    rw (one (b .before .before), two b, three d, sym (c .before .is-on-file .ensures) ∙ not-true _ (c .if4 .taken))
 
--- src/requesting.rt:119:9
 is-offered-requires : tie.Need-is-offered-requires
 is-offered-requires c κs = search needs
 
--- src/requesting.rt:120:9
 returns-5 : tie.Need-returns-5
-returns-5 c = ?
+returns-5 c =
+    let e = c .before .before in
+    let d = e .before .before .before .before in
+    let b = d .before .before .before .before in
+    rw (one (b .before .before), two b, three d, five e, sym (c .before .is-offered .ensures) ∙ not-true _ (c .if5 .taken))
 
--- src/requesting.rt:122:5
 decide-span-requires : tie.Need-decide-span-requires
-decide-span-requires c κs = search needs
+decide-span-requires c κs =
+    let b = c .before .before .before .before .before .before .before .before .before .before in
+    ready (asked (c .before .before .before .before .before .before .before .before .before .before .before .before .before .before .before .before)) (c .before .before .before .before .before .before .before .before .before .before .before .before .before .before .before .before .args .q) (one (b .before .before)) (two b)
 
--- src/requesting.rt:101:1
 returns-6 : tie.Need-returns-6
-returns-6 c = ?
+returns-6 c =
+    let g = c .before in
+    let e = g .before .before in
+    let d = e .before .before .before .before in
+    let b = d .before .before .before .before in
+    let st = g .before .before .before .before .before .before .before .before .before .before .before .before .before .before .before .before in
+    decides-too (spanQuestions (st .args .t1) (st .args .free .now) (st .args .q)) (requestQuestions (asked st) (st .args .q)) (st .args .t1) (st .args .free .now) (st .args .q) (c .decide-span .result)
+    (rw (one (b .before .before), two b, three d, five e, sym (g .before .is-offered .ensures) ∙ not-false _ (g .if5 .left)))
+    (c .decide-span .ensures)
 
 pub decide-spec : {M : Type 1} → statement M
 decide-spec =

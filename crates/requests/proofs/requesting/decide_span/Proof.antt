@@ -1,3 +1,12 @@
+use mathlib.Core.Path.{_≡_, sym, _∙_}
+use mathlib.Core.Bool.{true}
+use borrow.Author.Tests.{not-true, not-false}
+use Rattle.calendar.proofs.Ranges.{and-left}
+use Rattle.conferral.specs.Spans.{arrives, spanFits}
+use Rattle.requests.specs.Products.{monthOk}
+use Rattle.requests.specs.RequestCapacity.{spanFirst, spanLast, amountQuestions, spanQuestions}
+use Rattle.requests.specs.Steps.{Spanned}
+use Rattle.requests.proofs.RequestLaws.{fields, spanned, no-span, decides-too}
 use native.Mathlib.Omega.{arith}
 use borrow.Author.Needs.{needs}
 use Rattle.requests.proofs.requesting.decide_span.Statement.{statement}
@@ -8,37 +17,46 @@ use Rattle.requests.proofs.products.is_in_time.Reads as is-in-time-read
 use Rattle.requests.proofs.products.span_of.Reads as span-of-reads
 use Rattle.requests.proofs.requesting.decide_amount.Reads as decide-amount-reads
 
--- src/requesting.rt:88:9
-span-of-requires : tie.Need-span-of-requires
-span-of-requires c κs = search needs
+-- the span, and question 8
+is-month : (c : tie.Start) → monthOk (c .args .q .product) ≡ true
+is-month c = fields (c .args .q) (c .pre .fields) .month
 
--- src/requesting.rt:90:20
+span : (c : tie.After-known-told) → Spanned (c .before .before .before .before .before .args .r) (c .before .before .before .before .before .args .q) (c .before .span .given .0 .0) (c .before .span .given .0 .1 .0)
+span c = spanned (c .before .before .before .before .before .args .r) (c .before .before .before .before .before .args .q) _ _ (sym (c .before .before .before .span-of .ensures) ∙ c .before .span .given .1)
+
+arrived : (c : tie.After-known-told) → (let a = c .before .before .before .before .before .args in arrives (a .r .year) (a .q .arrival) ≡ true)
+arrived c = let a = c .before .before .before .before .before .args in and-left _ (spanFits (a .r .year) (spanFirst (a .r) (a .q)) (spanLast (a .r) (a .q))) (span c .fits)
+
+span-of-requires : tie.Need-span-of-requires
+span-of-requires c κs = is-month (c .before)
+
 enum-known-span : tie.Need-enum-known-span
 enum-known-span c = search needs
 
--- src/requesting.rt:91:17
 is-in-time-requires : tie.Need-is-in-time-requires
-is-in-time-requires c κs = search needs
+is-in-time-requires c κs = (arrived c, is-month (c .before .before .before .before .before))
 
--- src/requesting.rt:92:17
 returns : tie.Need-returns
-returns c = ?
+returns c = rw (span (c .before .before) .fits, sym (c .before .is-in-time .ensures) ∙ not-true _ (c .if1 .taken))
 
--- src/requesting.rt:94:13
 decide-amount-requires : tie.Need-decide-amount-requires
-decide-amount-requires c κs = search needs
+decide-amount-requires c κs = (c .before .before .before .before .before .before .before .pre, span (c .before .before))
 
--- src/requesting.rt:96:51
 enum-told : tie.Need-enum-told
 enum-told c = search needs
 
--- src/requesting.rt:83:1
 returns-2 : tie.Need-returns-2
-returns-2 c = ?
+returns-2 c =
+    let e = c .before in
+    let a = c .before .before .before .before .before .before .before .before .args in
+    decides-too (amountQuestions (a .r) (a .free .now) (a .q)) (spanQuestions (a .r) (a .free .now) (a .q)) (a .r) (a .free .now) (a .q) (c .decide-amount .result)
+    (rw (span (e .before .before) .fits, sym (e .before .is-in-time .ensures) ∙ not-false _ (e .if1 .left)))
+    (c .decide-amount .ensures)
 
--- src/requesting.rt:83:1
 returns-3 : tie.Need-returns-3
-returns-3 c = ?
+returns-3 c =
+    let a = c .before .before .before .before .args in
+    rw (no-span (a .r) (a .q) (sym (c .before .before .span-of .ensures) ∙ c .enum-told .given .1))
 
 pub decide-span-spec : {M : Type 1} → statement M
 decide-span-spec =

@@ -6,25 +6,20 @@ use Rattle.requests.proofs.requesting.fields_within_limits.Reads as rea
 use Rattle.requests.proofs.requesting.fields_within_limits.Lts as lts
 use Rattle.requests.proofs.products.is_month_within_limits.Reads as is-month-within-limits-reads
 
--- src/requesting.rt:39:7
 cast-result : tie.Need-cast-result
 cast-result c = search needs
 
--- src/requesting.rt:40:13
 cast-result-2 : tie.Need-cast-result-2
 cast-result-2 c = search needs
 
--- src/requesting.rt:41:43
 cast-result-3 : tie.Need-cast-result-3
 cast-result-3 c = search needs
 
--- src/requesting.rt:42:11
 is-month-within-limits-requires : tie.Need-is-month-within-limits-requires
 is-month-within-limits-requires c κs = search needs
 
--- src/requesting.rt:35:1
 returns : tie.Need-returns
-returns c = ?
+returns c = rw (c .is-month-within-limits .ensures)
 
 pub fields-within-limits-spec : {M : Type 1} → statement M
 fields-within-limits-spec =
