@@ -6,4 +6,5 @@
 
 pub mod calendar;
 pub mod register;
+pub mod request;
 pub mod script;

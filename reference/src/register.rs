@@ -1,5 +1,6 @@
 //! The register, question 1, and the calls that grant no capacity: the fresh
-//! register, open point, place guarantee, turn the year and the report.
+//! register, open point, place guarantee, turn the year and the report. The
+//! request is in [`crate::request`].
 //!
 //! The rules are those of document 01, sections "The register", "The changing
 //! calls", "Questions put to a call" and "Report and runner". What that paper
@@ -51,6 +52,9 @@ pub const GUARANTEES: RangeInclusive<u64> = 0..=1_000_000_000_000_000;
 /// Kinds of an open point: 1 direct, 2 thermoelectric.
 pub const KINDS: RangeInclusive<u8> = 1..=2;
 
+/// The kind of a direct point.
+pub const DIRECT: u8 = 1;
+
 /// A delivery point. One of kind 0 is closed.
 #[derive(Debug, Clone, Copy, PartialEq, Eq, Default)]
 pub struct Point {
@@ -92,6 +96,10 @@ pub struct Account {
 }
 
 impl Account {
+    pub fn is_on_file(&self) -> bool {
+        self.on_file == 1
+    }
+
     fn is_in_order(&self) -> bool {
         match self.on_file {
             0 => self.guarantee == 0 && self.commitment == 0,
@@ -118,9 +126,17 @@ impl LineKind {
             _ => None,
         }
     }
+
+    fn number(self) -> u32 {
+        match self {
+            LineKind::Annual => 1,
+            LineKind::Month => 2,
+            LineKind::Day => 3,
+        }
+    }
 }
 
-/// A ledger line as it is read.
+/// A ledger line as it is read and written.
 #[derive(Debug, Clone, Copy, PartialEq, Eq)]
 pub struct Line {
     pub user: u32,
@@ -145,6 +161,18 @@ impl Line {
             amount: i32::from_le_bytes(amount.to_le_bytes()),
         })
     }
+
+    /// The five numbers that hold the line.
+    pub(crate) fn numbers(&self) -> [u32; NUMBERS_IN_LINE] {
+        let amount = u32::from_le_bytes(self.amount.to_le_bytes());
+        [
+            self.user,
+            self.point,
+            self.kind.number(),
+            self.first,
+            amount,
+        ]
+    }
 }
 
 /// Why a call is refused: the question of document 01 that is answered no.
@@ -154,8 +182,14 @@ pub enum Refusal {
     OutOfLimits = 2,
     PointClosed = 3,
     PointOpen = 4,
+    NotOnFile = 5,
     BelowCommitment = 6,
+    NotOffered = 7,
     OutsideYear = 8,
+    Late = 9,
+    NotCovered = 11,
+    NothingFree = 12,
+    LedgerFull = 13,
     YearNotLater = 15,
 }
 
@@ -242,7 +276,7 @@ impl Register {
     fn has_lines_in_order(&self, ledger: &[u32], year: &RangeInclusive<u32>) -> bool {
         let users: BTreeSet<u32> = (0..)
             .zip(&self.accounts)
-            .filter(|(_, account)| account.on_file == 1)
+            .filter(|(_, account)| account.is_on_file())
             .map(|(user, _)| user)
             .collect();
         let points: BTreeSet<u32> = (0..)
@@ -265,7 +299,7 @@ impl Register {
     }
 
     /// Question 1 as every call puts it.
-    fn ensure_in_order(&self, lent: &Lent) -> Result<(), Refusal> {
+    pub(crate) fn ensure_in_order(&self, lent: &Lent) -> Result<(), Refusal> {
         ensure(self.is_in_order(lent), Refusal::NotInOrder)
     }
 
@@ -362,6 +396,6 @@ fn is_first_of_month(day: u32) -> bool {
 }
 
 /// Refuses where a question is answered no.
-fn ensure(answer: bool, refusal: Refusal) -> Result<(), Refusal> {
+pub(crate) fn ensure(answer: bool, refusal: Refusal) -> Result<(), Refusal> {
     answer.then_some(()).ok_or(refusal)
 }

@@ -1,6 +1,7 @@
 //! The script of the program `calls`: the steps written by hand have the answers
-//! that stand beside them, and the random stream is of use.
+//! that stand beside them, and the random sequences are of use.
 
+use reference::request::{Product, Request};
 use reference::script::{by_hand, lines, random, steps, Answer, Host, Step};
 
 #[test]
@@ -17,68 +18,152 @@ fn the_steps_by_hand_are_answered_as_written() {
     }
 }
 
-/// A refused call alters nothing.
+/// A refused call alters nothing, and a report never does. A fresh register that
+/// is refused has the year 0.
 #[test]
 fn a_refused_call_leaves_everything() {
     let mut host = Host::default();
     for step in steps() {
         let before = host.clone();
-        match (step, host.run(step)) {
-            (Step::Fresh { .. }, Answer::Number(1..)) => {}
-            (_, Answer::Number(1..) | Answer::Report(..)) => {
-                assert!(host == before, "{step}");
-            }
+        let is_refused = host.run(step).number().is_some_and(|number| number > 0);
+        match step {
+            Step::Fresh { .. } => {}
+            Step::Report { .. } => assert!(host == before, "{step}"),
+            _ if is_refused => assert!(host == before, "{step}"),
             _ => {}
         }
     }
 }
 
+/// The calls of the random sequences, with their answers.
+fn random_calls() -> Vec<(Step, Answer)> {
+    let mut host = Host::default();
+    let sequences = random::sequences(host.clone());
+    assert!(sequences.len() >= 120);
+    let steps = sequences.concat().into_iter();
+    let answered = steps.map(|step| (step, host.run(step)));
+    answered
+        .filter(|(_, answer)| answer.number().is_some())
+        .collect()
+}
+
 /// Accepted calls and each refusal are frequent.
 #[test]
-fn the_stream_has_every_answer_often() {
-    let mut host = Host::default();
-    let mut answers = Vec::new();
-    for step in random::stream(host.clone()) {
-        match (step, host.run(step)) {
-            (step, Answer::Number(number)) => answers.push((step.record()[0], number)),
-            (step, Answer::Report(number, _)) => answers.push((step.record()[0], number)),
-            (_, Answer::None) => {}
-        }
-    }
+fn the_sequences_have_every_answer_often() {
+    let calls = random_calls();
     let count = |letter: u8, number: u8| {
-        answers
+        calls
             .iter()
-            .filter(|&&answer| answer == (letter, number))
+            .filter(|(step, answer)| step.letter() == letter && answer.number() == Some(number))
             .count()
     };
     for (letter, number, at_least) in [
-        (b'F', 0, 5),
-        (b'F', 2, 3),
-        (b'P', 0, 50),
-        (b'P', 1, 20),
-        (b'P', 2, 20),
+        (b'F', 0, 100),
+        (b'F', 2, 10),
+        (b'P', 0, 300),
+        (b'P', 1, 10),
+        (b'P', 2, 50),
         (b'P', 4, 20),
-        (b'G', 0, 50),
-        (b'G', 1, 20),
+        (b'G', 0, 300),
+        (b'G', 1, 10),
         (b'G', 2, 20),
-        (b'G', 6, 5),
-        (b'Y', 0, 10),
-        (b'Y', 1, 3),
-        (b'Y', 2, 3),
-        (b'Y', 15, 3),
-        (b'Q', 0, 80),
+        (b'G', 6, 20),
+        (b'Y', 0, 50),
+        (b'Y', 1, 5),
+        (b'Y', 2, 10),
+        (b'Y', 15, 10),
+        (b'R', 0, 800),
+        (b'R', 1, 100),
+        (b'R', 2, 100),
+        (b'R', 3, 50),
+        (b'R', 5, 50),
+        (b'R', 7, 50),
+        (b'R', 8, 100),
+        (b'R', 9, 100),
+        (b'R', 11, 100),
+        (b'R', 12, 100),
+        (b'R', 13, 10),
+        (b'Q', 0, 300),
         (b'Q', 1, 20),
-        (b'Q', 2, 10),
-        (b'Q', 3, 10),
-        (b'Q', 8, 10),
+        (b'Q', 2, 20),
+        (b'Q', 3, 20),
+        (b'Q', 8, 20),
     ] {
         let found = count(letter, number);
+        println!("{} {number}: {found}", letter as char);
         assert!(
             found >= at_least,
             "{}: {number}, {found} times",
             letter as char
         );
     }
+}
+
+/// Requests of each kind are granted in full, cut, late and not covered.
+#[test]
+fn the_sequences_grant_and_cut_often() {
+    let calls = random_calls();
+    type Test = fn(u64, Answer) -> bool;
+    let answers: [(&str, Test); 5] = [
+        (
+            "in full",
+            |asked, answer| matches!(answer, Answer::Amount(0, granted) if u64::from(granted) == asked),
+        ),
+        (
+            "cut",
+            |asked, answer| matches!(answer, Answer::Amount(0, granted) if u64::from(granted) < asked),
+        ),
+        ("late", |_, answer| answer.number() == Some(9)),
+        ("not covered", |_, answer| answer.number() == Some(11)),
+        ("nothing free", |_, answer| answer.number() == Some(12)),
+    ];
+    for kind in [1, 2, 3] {
+        for (name, test) in answers {
+            let requests = calls.iter().filter_map(|&(step, answer)| match step {
+                Step::Request(request) if step.record()[8] == kind => {
+                    Some((request.amount, answer))
+                }
+                _ => None,
+            });
+            let found = requests
+                .filter(|&(asked, answer)| test(asked, answer))
+                .count();
+            println!("kind {kind}, {name}: {found}");
+            assert!(found >= 20, "kind {kind}, {name}: {found} times");
+        }
+    }
+}
+
+/// The words of a record, and how a step is printed.
+#[test]
+fn a_request_is_recorded_and_printed() {
+    let request = |product| {
+        Step::Request(Request {
+            user: 5,
+            point: 31,
+            product,
+            arrival: 8_699,
+            amount: (1 << 32) + 600,
+        })
+    };
+    let words = |step: Step| -> Vec<u32> {
+        let record = step.record();
+        let words = record.chunks_exact(4);
+        words
+            .map(|word| u32::from_le_bytes(word.try_into().unwrap()))
+            .collect()
+    };
+    for (product, kind, number, text) in [
+        (Product::Annual, 1, 0, "annual"),
+        (Product::Month(12), 2, 12, "month 12"),
+        (Product::Day(8_700), 3, 8_700, "day 8700"),
+    ] {
+        let step = request(product);
+        assert_eq!(words(step), [82, 31, kind, number, 8_699, 600, 1, 5]);
+        let printed = format!("request 5 31 {text} 8699 4294967896");
+        assert_eq!(step.to_string(), printed);
+    }
+    assert_eq!(Answer::Amount(0, 600).to_string(), " -> 0 600");
 }
 
 #[test]

@@ -1,74 +1,9 @@
 //! The register against document 01, one rule at a time.
 
+mod books;
+
+use books::Books;
 use reference::register::*;
-
-/// A register with the two lists that it is lent, each of the right length.
-struct Books {
-    register: Register,
-    free: Vec<u32>,
-    ledger: Vec<u32>,
-}
-
-impl Books {
-    fn fresh(year: u16) -> Books {
-        let mut books = Books {
-            register: Register::blank(0),
-            free: vec![9; 11_712],
-            ledger: vec![9; 10_240],
-        };
-        let (register, mut lent) = books.lend();
-        assert_eq!(register.renew(&mut lent, year), Ok(()));
-        books
-    }
-
-    /// A register of 2023 with point 3 open and user 5 on file.
-    fn in_use() -> Books {
-        let mut books = Books::fresh(2023);
-        assert_eq!(books.open(3, 2, 1_000, 100), Ok(()));
-        assert_eq!(books.place(5, 1_000_000), Ok(()));
-        books
-    }
-
-    fn lend(&mut self) -> (&mut Register, Lent<'_>) {
-        let lent = Lent {
-            free: &mut self.free,
-            ledger: &mut self.ledger,
-        };
-        (&mut self.register, lent)
-    }
-
-    fn open(&mut self, point: u8, kind: u8, total: u64, rate: u32) -> Result<(), Refusal> {
-        let (register, mut lent) = self.lend();
-        register.open_point(&mut lent, point, kind, total, rate)
-    }
-
-    fn place(&mut self, user: u8, guarantee: u64) -> Result<(), Refusal> {
-        let (register, lent) = self.lend();
-        register.place_guarantee(&lent, user, guarantee)
-    }
-
-    fn turn(&mut self, year: u16) -> Result<(), Refusal> {
-        let (register, mut lent) = self.lend();
-        register.turn_year(&mut lent, year)
-    }
-
-    fn report(&mut self, point: u8, day: u16) -> Result<u32, Refusal> {
-        let (register, lent) = self.lend();
-        register.report(&lent, point, day)
-    }
-
-    fn is_in_order(&mut self) -> bool {
-        let (register, lent) = self.lend();
-        register.is_in_order(&lent)
-    }
-
-    /// Writes the next line of the ledger and counts it.
-    fn enter(&mut self, line: [u32; 5]) {
-        let at = usize::from(self.register.lines) * 5;
-        self.ledger[at..at + 5].copy_from_slice(&line);
-        self.register.lines += 1;
-    }
-}
 
 #[test]
 fn the_lists_have_the_lengths_of_document_01() {
@@ -83,8 +18,14 @@ fn a_refusal_has_the_number_of_its_question() {
         (Refusal::OutOfLimits, 2),
         (Refusal::PointClosed, 3),
         (Refusal::PointOpen, 4),
+        (Refusal::NotOnFile, 5),
         (Refusal::BelowCommitment, 6),
+        (Refusal::NotOffered, 7),
         (Refusal::OutsideYear, 8),
+        (Refusal::Late, 9),
+        (Refusal::NotCovered, 11),
+        (Refusal::NothingFree, 12),
+        (Refusal::LedgerFull, 13),
         (Refusal::YearNotLater, 15),
     ];
     for (refusal, number) in numbers {

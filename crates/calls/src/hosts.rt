@@ -10,6 +10,9 @@ use register::Filed;
 use register::Point;
 use register::Register;
 use register::Report;
+use requests::Conferred;
+use requests::Product;
+use requests::Request;
 
 // Both lists have some numbers more than a call is lent, so that a longer list can be tried.
 pub const TABLE_SPACE: usize = 11_720;
@@ -82,6 +85,38 @@ fn after_report(h: Host, answer: Report) -> Host {
     }
 }
 
+fn after_request(h: Host, c: Conferred) -> Host {
+    let r = c.register;
+    let answer = c.answer;
+    Host {
+        register: r,
+        table: h.table,
+        ledger: h.ledger,
+        number: requests::conferral_number(answer),
+        amount: requests::conferral_amount(answer),
+    }
+}
+
+// What is requested. The script has no kind but 1, 2 and 3.
+fn product_of(s: Step) -> Product {
+    let kind = s.kind;
+    match kind {
+        1 => Product::Annual,
+        2 => Product::Month(byte(s.day)),
+        _ => Product::Day(half(s.day)),
+    }
+}
+
+fn request_of(s: Step) -> Request {
+    Request {
+        user: byte(s.user),
+        point: byte(s.index),
+        product: product_of(s),
+        arrival: half(s.rate),
+        amount: s.value,
+    }
+}
+
 // A call, with what it is lent.
 fn run_call(h: Host, s: Step, free: &mut [u32], ledger: &mut [u32]) -> Host {
     let r = h.register;
@@ -105,6 +140,10 @@ fn run_call(h: Host, s: Step, free: &mut [u32], ledger: &mut [u32]) -> Host {
             filing::place_guarantee(r, &free[..], &ledger[..], byte(s.index), s.value),
         ),
         b'Y' => after_call(h, filing::turn_year(r, free, ledger, half(s.day))),
+        b'R' => after_request(
+            h,
+            requests::request_capacity(r, free, ledger, request_of(s)),
+        ),
         _ => after_report(
             h,
             register::report_free(r, &free[..], &ledger[..], byte(s.index), half(s.day)),

@@ -23,6 +23,30 @@ fn print_opening(s: Step) {
     print_field(s.rate as u64);
 }
 
+fn print_product(s: Step) {
+    let kind = s.kind;
+    match kind {
+        1 => print_text(b" annual"),
+        2 => {
+            print_text(b" month");
+            print_field(s.day as u64);
+        }
+        _ => {
+            print_text(b" day");
+            print_field(s.day as u64);
+        }
+    }
+}
+
+fn print_request(s: Step) {
+    print_text(b" request");
+    print_field(s.user as u64);
+    print_field(s.index as u64);
+    print_product(s);
+    print_field(s.rate as u64);
+    print_field(s.value);
+}
+
 fn print_call(s: Step) {
     let letter = s.letter;
     match letter {
@@ -40,6 +64,7 @@ fn print_call(s: Step) {
             print_text(b" turn");
             print_field(s.day as u64);
         }
+        b'R' => print_request(s),
         _ => {
             print_text(b" report");
             print_field(s.index as u64);
@@ -97,7 +122,7 @@ fn print_write(s: Step) {
 fn print_answer(h: Host, letter: u8) {
     print_text(b" ->");
     print_field(h.number as u64);
-    if letter == b'Q' {
+    if (letter == b'Q') | (letter == b'R') {
         print_field(h.amount as u64);
     }
 }

@@ -2,11 +2,12 @@
 // are written by another implementation (reference/), which shares no code with the register.
 //
 // A step is a call, or writes one number of the register, of the lists that are lent or of their lengths, or copies a line: what a
-// faulty host could do. Its record has eight words of 32 bits, little-endian: letter; point, user or the place in a list; kind;
-// year or gas-day; rate; total, guarantee, number written or count of lines, low half first; and one that is not read.
+// faulty host could do. Its record has eight words of 32 bits, little-endian: letter; point, the user of a guarantee or the place in
+// a list; kind, of a point or of what is requested (1 annual, 2 month, 3 day); year, gas-day or month of the year; rate, or the
+// arrival of a request; total, guarantee, amount, number written or count of lines, low half first; and the user of a request.
 //
-// A line has the position of the step from 1, the step, the number of its answer after `->`, for a report the free amount, and a
-// digest of the register and of both lists, the numbers that are never lent included.
+// A line has the position of the step from 1, the step, the number of its answer after `->`, for a report the free amount and for a
+// request the amount granted, and a digest of the register and of both lists, the numbers that are never lent included.
 mod digests;
 mod hosts;
 mod lines;

@@ -1,6 +1,7 @@
 // A step of the script, and its record.
 
-// What a record holds, whether the step uses it or not.
+// What a record holds, whether the step uses it or not. The names are those of most steps; a request has its month or gas-day in
+// `day` and its arrival in `rate`.
 pub struct Step {
     pub letter: u8,
     pub index: u32,
@@ -8,6 +9,7 @@ pub struct Step {
     pub day: u32,
     pub rate: u32,
     pub value: u64,
+    pub user: u32,
 }
 
 fn word(a: u8, b: u8, c: u8, d: u8) -> u32 {
@@ -25,6 +27,7 @@ pub fn step_of(r: &[u8; 32]) -> Step {
     let rate = word(r[16], r[17], r[18], r[19]);
     let low = word(r[20], r[21], r[22], r[23]);
     let high = word(r[24], r[25], r[26], r[27]);
+    let user = word(r[28], r[29], r[30], r[31]);
     Step {
         letter: r[0],
         index,
@@ -32,6 +35,7 @@ pub fn step_of(r: &[u8; 32]) -> Step {
         day,
         rate,
         value: joined(low, high),
+        user,
     }
 }
 
@@ -42,6 +46,7 @@ pub fn is_call(letter: u8) -> bool {
         b'P' => true,
         b'G' => true,
         b'Y' => true,
+        b'R' => true,
         b'Q' => true,
         _ => false,
     }

@@ -4,7 +4,10 @@
 //! Days: thermal year 2023 runs from day 8,674 to 9,039 and has 366 days, 2022
 //! from 8,309 to 8,673 and 2024 from 9,040 to 9,404, each with 365.
 
+mod requests;
+
 use super::{Answer, Field, Step};
+use crate::request::{Product, Request};
 use Field::*;
 
 /// A step, why it is there, and its answer.
@@ -59,11 +62,20 @@ impl Cases {
 
     /// A report that is refused: the amount is 0.
     fn no_report(&mut self, why: &str, point: u8, day: u16, number: u8) {
-        self.push(why, Step::Report { point, day }, Answer::Report(number, 0));
+        self.push(why, Step::Report { point, day }, Answer::Amount(number, 0));
     }
 
     fn report(&mut self, why: &str, point: u8, day: u16, amount: u32) {
-        self.push(why, Step::Report { point, day }, Answer::Report(0, amount));
+        self.push(why, Step::Report { point, day }, Answer::Amount(0, amount));
+    }
+
+    fn granted(&mut self, why: &str, request: Request, amount: u32) {
+        self.push(why, Step::Request(request), Answer::Amount(0, amount));
+    }
+
+    /// A request that is refused: the amount is 0.
+    fn refused(&mut self, why: &str, request: Request, number: u8) {
+        self.push(why, Step::Request(request), Answer::Amount(number, 0));
     }
 
     fn set(&mut self, why: &str, field: Field, value: u64) {
@@ -73,18 +85,19 @@ impl Cases {
     /// Damage that question 1 finds, in every call, before any other question.
     /// The fields of the calls are within limits; then it is repaired.
     fn damaged(&mut self, why: &str, changes: &[Change]) {
-        let (point, day, amount) = self.known;
+        let (point, gas_day, amount) = self.known;
         for &(field, number, _) in changes {
             self.set(why, field, number);
         }
-        self.no_report(why, point, day, 1);
+        self.no_report(why, point, gas_day, 1);
         self.open(why, (7, 1, 50, 60), 1);
         self.place(why, 9, 70, 1);
         self.turn(why, 2098, 1);
+        self.refused(why, day(5, point, gas_day, gas_day - 1, 1), 1);
         for &(field, _, usual) in changes.iter().rev() {
             self.set("repaired", field, usual);
         }
-        self.report("in order again", point, day, amount);
+        self.report("in order again", point, gas_day, amount);
     }
 
     /// A change that leaves the register in order, and is taken back.
@@ -97,6 +110,33 @@ impl Cases {
         for &(field, _, usual) in changes.iter().rev() {
             self.set("taken back", field, usual);
         }
+    }
+}
+
+/// An annual request, in the order in which it is printed.
+fn annual(user: u8, point: u8, arrival: u16, amount: u64) -> Request {
+    Request {
+        user,
+        point,
+        product: Product::Annual,
+        arrival,
+        amount,
+    }
+}
+
+/// A request for a month, 1 for October.
+fn month(user: u8, point: u8, month: u8, arrival: u16, amount: u64) -> Request {
+    Request {
+        product: Product::Month(month),
+        ..annual(user, point, arrival, amount)
+    }
+}
+
+/// A request for a gas-day.
+fn day(user: u8, point: u8, day: u16, arrival: u16, amount: u64) -> Request {
+    Request {
+        product: Product::Day(day),
+        ..annual(user, point, arrival, amount)
     }
 }
 
@@ -118,6 +158,7 @@ pub fn cases() -> Vec<Case> {
     turns(&mut cases);
     ordinary_years(&mut cases);
     first_and_last_year(&mut cases);
+    requests::add_to(&mut cases);
     cases.cases
 }
 
@@ -126,6 +167,7 @@ pub fn cases() -> Vec<Case> {
 fn fresh_registers(c: &mut Cases) {
     c.no_report("no register yet: year 0", 0, 8674, 1);
     c.turn("no register yet", 2023, 1);
+    c.refused("no register yet", day(5, 0, 8700, 8699, 600), 1);
     c.fresh("one before the first year", 1999, 2);
     c.fresh("one after the last year", 2099, 2);
     c.fresh("no year", 0, 2);

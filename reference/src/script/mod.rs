@@ -3,21 +3,24 @@
 //! A step is a call, or writes one number of the register, of the lists that
 //! are lent or of their lengths, or copies a line: what a faulty host could do.
 //! The script has two parts: steps written by hand, with the answers that
-//! document 01 gives them, and a random stream.
+//! document 01 gives them, and random sequences.
 //!
 //! In the script a step is a record of eight words of 32 bits, little-endian:
 //!
 //! - 0: the letter of the step;
-//! - 1: point, user or the place in a list;
-//! - 2: kind;
-//! - 3: year or gas-day;
-//! - 4: rate;
-//! - 5, 6: total, guarantee, number written or count of lines, low half first;
-//! - 7: 0.
+//! - 1: point, the user of a guarantee or the place in a list;
+//! - 2: kind, of a point or of what is requested (1 annual, 2 month, 3 day);
+//! - 3: year, gas-day or month of the year;
+//! - 4: rate, or the arrival of a request;
+//! - 5, 6: total, guarantee, amount, number written or count of lines, low half
+//!   first;
+//! - 7: the user of a request.
+//!
+//! A word that a step does not use is 0.
 //!
 //! A line of the output has the position of the step from 1, the step, the
-//! number of its answer after `->`, for a report the free amount, and a digest of
-//! the register and of both lists.
+//! number of its answer after `->`, for a report the free amount and for a
+//! request the amount granted, and a digest of the register and of both lists.
 
 pub mod by_hand;
 pub mod random;
@@ -25,6 +28,7 @@ pub mod random;
 use std::fmt;
 
 use crate::register::{Lent, Refusal, Register, LEDGER_LENGTH, NUMBERS_IN_LINE, TABLE_LENGTH};
+use crate::request::{Product, Request};
 
 /// The numbers of each list that are lent in no call with the right lengths. A
 /// call that writes there is found by the digest.
@@ -98,6 +102,7 @@ pub enum Step {
     Turn {
         year: u16,
     },
+    Request(Request),
     Report {
         point: u8,
         day: u16,
@@ -110,34 +115,114 @@ pub enum Step {
     },
 }
 
+/// The words of a step's record, by what they hold most often.
+#[derive(Debug, Default)]
+struct Words {
+    letter: u8,
+    index: u16,
+    kind: u8,
+    day: u16,
+    rate: u32,
+    value: u64,
+    user: u8,
+}
+
+impl Words {
+    fn of_request(request: Request) -> Words {
+        let (kind, day) = match request.product {
+            Product::Annual => (1, 0),
+            Product::Month(month) => (2, month.into()),
+            Product::Day(day) => (3, day),
+        };
+        Words {
+            letter: b'R',
+            index: request.point.into(),
+            kind,
+            day,
+            rate: request.arrival.into(),
+            value: request.amount,
+            user: request.user,
+        }
+    }
+
+    fn record(&self) -> [u8; 32] {
+        let mut record = [0; 32];
+        record[0] = self.letter;
+        record[4..6].copy_from_slice(&self.index.to_le_bytes());
+        record[8] = self.kind;
+        record[12..14].copy_from_slice(&self.day.to_le_bytes());
+        record[16..20].copy_from_slice(&self.rate.to_le_bytes());
+        record[20..28].copy_from_slice(&self.value.to_le_bytes());
+        record[28] = self.user;
+        record
+    }
+}
+
 impl Step {
+    /// The letter of the step in the script.
+    pub fn letter(self) -> u8 {
+        self.words().letter
+    }
+
     /// The record of the step.
     pub fn record(self) -> [u8; 32] {
-        let (letter, index, kind, year_or_day, rate, value) = match self {
-            Step::Fresh { year } => (b'F', 0, 0, year, 0, 0),
+        self.words().record()
+    }
+
+    fn words(self) -> Words {
+        let none = Words::default();
+        match self {
+            Step::Fresh { year } => Words {
+                letter: b'F',
+                day: year,
+                ..none
+            },
             Step::Open {
                 point,
                 kind,
                 total,
                 rate,
-            } => (b'P', point.into(), kind, 0, rate, total),
-            Step::Place { user, guarantee } => (b'G', user.into(), 0, 0, 0, guarantee),
-            Step::Turn { year } => (b'Y', 0, 0, year, 0, 0),
-            Step::Report { point, day } => (b'Q', point.into(), 0, day, 0, 0),
+            } => Words {
+                letter: b'P',
+                index: point.into(),
+                kind,
+                rate,
+                value: total,
+                ..none
+            },
+            Step::Place { user, guarantee } => Words {
+                letter: b'G',
+                index: user.into(),
+                value: guarantee,
+                ..none
+            },
+            Step::Turn { year } => Words {
+                letter: b'Y',
+                day: year,
+                ..none
+            },
+            Step::Request(request) => Words::of_request(request),
+            Step::Report { point, day } => Words {
+                letter: b'Q',
+                index: point.into(),
+                day,
+                ..none
+            },
             Step::Set(field, value) => {
                 let (letter, _, index) = field.parts();
-                (letter, index.unwrap_or(0), 0, 0, 0, value)
+                Words {
+                    letter,
+                    index: index.unwrap_or(0),
+                    value,
+                    ..none
+                }
             }
-            Step::Repeat { lines } => (b'm', 0, 0, 0, 0, lines.into()),
-        };
-        let mut record = [0; 32];
-        record[0] = letter;
-        record[4..6].copy_from_slice(&u16::to_le_bytes(index));
-        record[8] = kind;
-        record[12..14].copy_from_slice(&u16::to_le_bytes(year_or_day));
-        record[16..20].copy_from_slice(&u32::to_le_bytes(rate));
-        record[20..28].copy_from_slice(&u64::to_le_bytes(value));
-        record
+            Step::Repeat { lines } => Words {
+                letter: b'm',
+                value: lines.into(),
+                ..none
+            },
+        }
     }
 }
 
@@ -153,6 +238,7 @@ impl fmt::Display for Step {
             } => write!(f, "open {point} {kind} {total} {rate}"),
             Step::Place { user, guarantee } => write!(f, "place {user} {guarantee}"),
             Step::Turn { year } => write!(f, "turn {year}"),
+            Step::Request(request) => write_request(f, request),
             Step::Report { point, day } => write!(f, "report {point} {day}"),
             Step::Set(field, value) => match field.parts() {
                 (_, name, Some(index)) => write!(f, "set {name} {index} {value}"),
@@ -163,14 +249,35 @@ impl fmt::Display for Step {
     }
 }
 
+fn write_request(f: &mut fmt::Formatter<'_>, request: Request) -> fmt::Result {
+    write!(f, "request {} {} ", request.user, request.point)?;
+    match request.product {
+        Product::Annual => write!(f, "annual")?,
+        Product::Month(month) => write!(f, "month {month}")?,
+        Product::Day(day) => write!(f, "day {day}")?,
+    }
+    write!(f, " {} {}", request.arrival, request.amount)
+}
+
 /// What a step answers; a step that writes a number answers nothing.
 #[derive(Debug, Clone, Copy, PartialEq, Eq)]
 pub enum Answer {
     None,
-    /// The number of a changing call or of a fresh register.
+    /// The number of a call that has no amount to tell.
     Number(u8),
-    /// The number of a report and the free amount, 0 if it is refused.
-    Report(u8, u32),
+    /// The number of a report with the free amount, or that of a request with
+    /// the amount granted. The amount is 0 if the call is refused.
+    Amount(u8, u32),
+}
+
+impl Answer {
+    /// The number of a call.
+    pub fn number(self) -> Option<u8> {
+        match self {
+            Answer::None => None,
+            Answer::Number(number) | Answer::Amount(number, _) => Some(number),
+        }
+    }
 }
 
 impl fmt::Display for Answer {
@@ -178,7 +285,7 @@ impl fmt::Display for Answer {
         match self {
             Answer::None => Ok(()),
             Answer::Number(number) => write!(f, " -> {number}"),
-            Answer::Report(number, amount) => write!(f, " -> {number} {amount}"),
+            Answer::Amount(number, amount) => write!(f, " -> {number} {amount}"),
         }
     }
 }
@@ -243,10 +350,8 @@ impl Host {
                 number_of(register.place_guarantee(&lent, user, guarantee))
             }
             Step::Turn { year } => number_of(register.turn_year(&mut lent, year)),
-            Step::Report { point, day } => match register.report(&lent, point, day) {
-                Ok(amount) => Answer::Report(0, amount),
-                Err(refusal) => Answer::Report(refusal.number(), 0),
-            },
+            Step::Request(request) => amount_of(register.request(&mut lent, request)),
+            Step::Report { point, day } => amount_of(register.report(&lent, point, day)),
             Step::Set(..) | Step::Repeat { .. } => Answer::None,
         }
     }
@@ -332,6 +437,13 @@ fn number_of(result: Result<(), Refusal>) -> Answer {
     Answer::Number(result.map_or_else(Refusal::number, |()| 0))
 }
 
+fn amount_of(result: Result<u32, Refusal>) -> Answer {
+    match result {
+        Ok(amount) => Answer::Amount(0, amount),
+        Err(refusal) => Answer::Amount(refusal.number(), 0),
+    }
+}
+
 /// The whole script.
 pub fn steps() -> Vec<Step> {
     let mut host = Host::default();
@@ -339,7 +451,7 @@ pub fn steps() -> Vec<Step> {
     for &step in &steps {
         host.run(step);
     }
-    steps.extend(random::stream(host));
+    steps.extend(random::sequences(host).concat());
     steps
 }
 

@@ -1,14 +1,30 @@
-//! A random stream of steps, the same at every run: calls with good and bad
-//! fields, and writes that damage the register and are mostly repaired.
+//! Random sequences of steps, the same at every run. Each starts from a fresh
+//! register, with some points opened and guarantees placed.
+//!
+//! Every other sequence has calls only, with good and bad fields. The others
+//! also have writes: some leave the register in order, some damage it and are
+//! mostly repaired.
 
-use super::{Field, Host, Step};
+mod damages;
+mod requests;
+
+use super::{Answer, Field, Host, Step};
 use crate::calendar::thermal_year;
-use crate::register::{Point, DAYS_IN_ROW, LEDGER_LENGTH, NUMBERS_IN_LINE, TABLE_LENGTH};
+use crate::request::Span;
 
-/// About how many steps the stream has.
-const STEPS: usize = 1_200;
+/// How many sequences there are.
+const SEQUENCES: usize = 130;
+
+/// About how many steps a sequence has.
+const STEPS: usize = 49;
 
 const SEED: u64 = 20_231_001;
+
+/// The largest amount and total.
+const MOST_AMOUNT: u64 = 9_999_999;
+
+/// The largest guarantee.
+const MOST_GUARANTEE: u64 = 1_000_000_000_000_000;
 
 /// Numbers from a seed, by the method SplitMix64.
 struct Generator(u64);
@@ -27,6 +43,11 @@ impl Generator {
         T::try_from(self.next() % end).ok().expect("a small number")
     }
 
+    /// A gas-day from `first` to `last`.
+    fn day(&mut self, first: u16, last: u16) -> u16 {
+        first + self.below::<u16>(u64::from(last - first) + 1)
+    }
+
     fn pick<T: Copy>(&mut self, choices: &[T]) -> T {
         choices[self.below::<usize>(choices.len() as u64)]
     }
@@ -36,78 +57,136 @@ impl Generator {
     }
 }
 
-struct Stream {
+/// The sequence that is being made, and what it has come to.
+struct Sequence {
     numbers: Generator,
     host: Host,
     steps: Vec<Step>,
+    /// A month of the year, 1 for October, that is asked for more than others.
+    busy_month: u8,
+    /// The point and the days that were granted last.
+    granted: Option<(u8, Span)>,
     /// What damaged fields held before, the last damage last.
     repairs: Vec<(Field, u64)>,
 }
 
-/// The stream that follows on the steps that a host has run.
-pub fn stream(host: Host) -> Vec<Step> {
-    let mut stream = Stream {
+/// The sequences that follow on the steps that a host has run.
+pub fn sequences(host: Host) -> Vec<Vec<Step>> {
+    let mut sequence = Sequence {
         numbers: Generator(SEED),
         host,
         steps: Vec::new(),
+        busy_month: 1,
+        granted: None,
         repairs: Vec::new(),
     };
-    stream.add(Step::Fresh { year: 2000 });
-    while stream.steps.len() < STEPS {
-        stream.go_on();
-    }
-    stream.steps
+    (0..SEQUENCES)
+        .map(|index| sequence.next(index % 2 == 1))
+        .collect()
 }
 
-impl Stream {
+impl Sequence {
+    /// The next sequence, of calls only or with writes. It ends with all damages
+    /// repaired, so that the lists are lent whole to the one after it.
+    fn next(&mut self, has_writes: bool) -> Vec<Step> {
+        self.start();
+        while self.steps.len() < STEPS {
+            match has_writes {
+                true => self.call_or_write(),
+                false => self.call(),
+            }
+        }
+        self.put_back();
+        std::mem::take(&mut self.steps)
+    }
+
     fn add(&mut self, step: Step) {
-        self.host.run(step);
+        let answer = self.host.run(step);
         self.steps.push(step);
+        if let (Step::Request(request), Answer::Amount(0, _)) = (step, answer) {
+            let span = request.span(self.host.register.year);
+            self.granted = span.map(|span| (request.point, span));
+        }
     }
 
     fn set(&mut self, field: Field, value: u64) {
         self.add(Step::Set(field, value));
     }
 
-    fn go_on(&mut self) {
+    /// A fresh register, sometimes after one that is refused, with points open
+    /// and users on file.
+    fn start(&mut self) {
+        if self.numbers.in_hundred(12) {
+            let year = self.numbers.pick(&[0, 1999, 2099, u16::MAX]);
+            self.add(Step::Fresh { year });
+            self.request();
+        }
+        let year = 2000 + self.numbers.below::<u16>(99);
+        let year = self.numbers.pick(&[year, year, year, year, 2000, 2098]);
+        self.add(Step::Fresh { year });
+        self.busy_month = 1 + self.numbers.below::<u8>(12);
+        self.granted = None;
+        for _ in 0..2 + self.numbers.below::<u8>(3) {
+            let (point, kind, total, rate) = self.good_opening();
+            self.add(Step::Open {
+                point,
+                kind,
+                total,
+                rate,
+            });
+        }
+        for _ in 0..2 + self.numbers.below::<u8>(2) {
+            let user = self.numbers.pick(&[0, 5, 20, 63]);
+            let guarantee = self.good_guarantee();
+            self.add(Step::Place { user, guarantee });
+        }
+    }
+
+    fn call(&mut self) {
+        match self.numbers.below::<u8>(100) {
+            0..=3 => self.open(),
+            4..=9 => self.place(),
+            10..=27 => self.report(),
+            28..=29 => self.turn(),
+            _ => self.request(),
+        }
+    }
+
+    fn call_or_write(&mut self) {
         let is_in_order = self.host.is_in_order();
-        if !is_in_order && self.numbers.in_hundred(28) {
+        if !is_in_order && self.numbers.in_hundred(35) {
             return self.repair();
         }
         match self.numbers.below::<u8>(100) {
-            0..=24 => self.open(),
-            25..=46 => self.place(),
-            47..=72 => self.report(),
-            73..=77 => self.turn(),
-            78..=79 => self.fresh(),
-            80..=91 if is_in_order => self.change_in_order(),
-            _ if is_in_order => self.damage(),
-            _ => self.report(),
+            0..=8 if is_in_order => self.change_in_order(),
+            9..=15 if is_in_order => self.damage(),
+            16..=22 => self.open(),
+            23..=27 => self.place(),
+            28..=31 => self.turn(),
+            32..=37 => self.report(),
+            _ => self.call(),
         }
     }
 
-    /// Puts back what the damaged fields held; if the register is still not in
-    /// order it is made anew.
-    fn repair(&mut self) {
-        while let Some((field, value)) = self.repairs.pop() {
-            self.set(field, value);
-        }
-        if !self.host.is_in_order() {
-            let year = 2000 + self.numbers.below::<u16>(60);
-            self.add(Step::Fresh { year });
-        }
+    /// Fields of an opening within limits. Most totals are small, so that they
+    /// are soon used up.
+    fn good_opening(&mut self) -> (u8, u8, u64, u32) {
+        let numbers = &mut self.numbers;
+        let small = 1 + numbers.below::<u64>(30);
+        let medium = 1 + numbers.below::<u64>(1_000);
+        let any = 1 + numbers.below::<u64>(MOST_AMOUNT);
+        let total = numbers.pick(&[small, small, small, medium, medium, any, 1, MOST_AMOUNT]);
+        let (low, high) = (numbers.below(100), numbers.below(1_000_000));
+        let rate = numbers.pick(&[low, low, high, 1, 0, 999_999]);
+        let kind = numbers.pick(&[1, 2, 2, 2]);
+        (numbers.below(32), kind, total, rate)
     }
 
     fn open(&mut self) {
+        let (point, kind, total, rate) = self.good_opening();
+        let known = self.open_point();
         let numbers = &mut self.numbers;
-        let good_total = 1 + numbers.below::<u64>(9_999_999);
-        let (point, kind, total, rate) = (
-            numbers.below(32),
-            1 + numbers.below::<u8>(2),
-            numbers.pick(&[good_total, good_total, good_total, 1, 9_999_999]),
-            numbers.below(1_000_000),
-        );
-        let step = match numbers.below::<u8>(16) {
+        let (point, kind, total, rate) = match numbers.below::<u8>(12) {
             0 => (numbers.pick(&[32, 33, 64, 255]), kind, total, rate),
             1 => (point, numbers.pick(&[0, 3, 4, 255]), total, rate),
             2 => {
@@ -115,10 +194,9 @@ impl Stream {
                 (point, kind, numbers.pick(&bad), rate)
             }
             3 => (point, kind, total, numbers.pick(&[1_000_000, u32::MAX])),
-            4 => (point, kind, total, numbers.pick(&[0, 999_999])),
+            4 | 5 => (known, kind, total, rate),
             _ => (point, kind, total, rate),
         };
-        let (point, kind, total, rate) = step;
         self.add(Step::Open {
             point,
             kind,
@@ -127,21 +205,30 @@ impl Stream {
         });
     }
 
+    /// A guarantee within limits, from ample to tight.
+    fn good_guarantee(&mut self) -> u64 {
+        let numbers = &mut self.numbers;
+        let any = numbers.below(MOST_GUARANTEE + 1);
+        let little = numbers.below(1_000_000);
+        let tight = numbers.below(10_000);
+        numbers.pick(&[any, any, any, any, MOST_GUARANTEE, little, tight])
+    }
+
     fn place(&mut self) {
         let known = self.user_on_file();
         let user = self.numbers.pick(&[0, 5, 20, 63, known, known, known]);
         let committed = self.host.register.accounts[usize::from(user)].commitment;
+        let good = self.good_guarantee();
         let numbers = &mut self.numbers;
-        let good = numbers.below(1_000_000_000_000_001);
-        let (user, guarantee) = match numbers.below::<u8>(10) {
+        let (user, guarantee) = match numbers.below::<u8>(11) {
             0 => (numbers.pick(&[64, 65, 128, 255]), good),
             1 => {
-                let bad = [1_000_000_000_000_001, u64::MAX];
+                let bad = [MOST_GUARANTEE + 1, u64::MAX];
                 (user, numbers.pick(&bad))
             }
-            2 => (user, numbers.pick(&[0, 1_000_000_000_000_000])),
-            3 | 4 => (user, committed),
-            5 | 6 => (user, committed.saturating_sub(1)),
+            2 => (user, numbers.pick(&[0, MOST_GUARANTEE])),
+            3 => (user, committed),
+            4 | 5 => (user, committed.saturating_sub(1)),
             _ => (user, good),
         };
         self.add(Step::Place { user, guarantee });
@@ -164,7 +251,7 @@ impl Stream {
     fn user_on_file(&mut self) -> u8 {
         let accounts = (0..).zip(&self.host.register.accounts);
         let on_file: Vec<u8> = accounts
-            .filter(|(_, account)| account.on_file == 1)
+            .filter(|(_, account)| account.is_on_file())
             .map(|(index, _)| index)
             .collect();
         match on_file[..] {
@@ -173,33 +260,48 @@ impl Stream {
         }
     }
 
-    /// The first and the last gas-day of the register's year, or of another if
-    /// it has none.
-    fn year(&self) -> (u16, u16) {
-        let (first, last) = thermal_year(self.host.register.year).unwrap_or((8_674, 9_039));
-        (first as u16, last as u16)
+    /// The register's year, or another if it has none.
+    fn year(&self) -> u16 {
+        let year = self.host.register.year;
+        thermal_year(year).map_or(2023, |_| year)
+    }
+
+    /// The first and the last gas-day of the year.
+    fn days_of_year(&self) -> (u16, u16) {
+        narrow(thermal_year(self.year()))
     }
 
     /// A gas-day of the year, often one at its ends.
     fn day(&mut self) -> u16 {
-        let (first, last) = self.year();
-        let some = first + self.numbers.below::<u16>(u64::from(last - first) + 1);
+        let (first, last) = self.days_of_year();
+        let some = self.numbers.day(first, last);
         self.numbers.pick(&[first, last, some, some, some, some])
     }
 
     fn report(&mut self) {
-        let (first, last) = self.year();
+        let (first, last) = self.days_of_year();
         let day = self.day();
         let point = self.open_point();
+        let (granted_at, granted_on) = self.day_of_grant().unwrap_or((point, day));
         let numbers = &mut self.numbers;
-        let (point, day) = match numbers.below::<u8>(12) {
+        let (point, day) = match numbers.below::<u8>(14) {
             0 => (numbers.pick(&[32, 40, 255]), day),
             1 => (numbers.below(32), day),
             2 => (numbers.below(32), numbers.pick(&[first - 1, last + 1])),
             3 => (point, numbers.pick(&[first - 1, last + 1, 0, u16::MAX])),
-            _ => (point, day),
+            4..=7 => (point, day),
+            _ => (granted_at, granted_on),
         };
         self.add(Step::Report { point, day });
+    }
+
+    /// The point that was granted last, and a day in the span or beside it.
+    fn day_of_grant(&mut self) -> Option<(u8, u16)> {
+        let (point, span) = self.granted.clone()?;
+        let (from, to) = narrow(Some(span.into_inner()));
+        let some = self.numbers.day(from, to);
+        let day = self.numbers.pick(&[from - 1, from, some, to, to + 1]);
+        Some((point, day))
     }
 
     fn turn(&mut self) {
@@ -217,123 +319,11 @@ impl Stream {
         let year = self.numbers.pick(&choices);
         self.add(Step::Turn { year });
     }
+}
 
-    fn fresh(&mut self) {
-        let year = 2000 + self.numbers.below::<u16>(99);
-        let year = self.numbers.pick(&[year, year, year, 1999, 2099]);
-        self.add(Step::Fresh { year });
-    }
-
-    /// Changes that leave the register in order: amounts taken, a commitment, a
-    /// line.
-    fn change_in_order(&mut self) {
-        let point = self.open_point();
-        let user = self.user_on_file();
-        let account = self.host.register.accounts[usize::from(user)];
-        let is_open = self.host.register.points[usize::from(point)].is_open();
-        match self.numbers.below::<u8>(5) {
-            0 | 1 if is_open => {
-                let (first, _) = self.year();
-                let place = u16::from(point) * DAYS_IN_ROW as u16 + self.day() - first;
-                let free = self.host.get(Field::Free(place));
-                let left = self.numbers.below(free + 1);
-                self.set(Field::Free(place), left);
-            }
-            2 if is_open && account.on_file == 1 => self.line(user, point),
-            _ => {
-                let commitment = self.numbers.below(account.guarantee + 1);
-                self.set(Field::Commitment(user), commitment);
-            }
-        }
-    }
-
-    /// Writes the line after the last one, then counts it.
-    fn line(&mut self, user: u8, point: u8) {
-        let kind = self.numbers.pick(&[1, 2, 3]);
-        let (first, _) = self.year();
-        let day = if kind == 2 { first } else { self.day() };
-        let amount = 1 + self.numbers.below::<u32>(9_999_999);
-        let amount = self.numbers.pick(&[amount, amount.wrapping_neg()]);
-        let lines = self.host.register.lines;
-        let at = lines * NUMBERS_IN_LINE as u16;
-        let numbers = [
-            user.into(),
-            point.into(),
-            kind,
-            u64::from(day),
-            amount.into(),
-        ];
-        for (place, number) in (at..).zip(numbers) {
-            self.set(Field::Ledger(place), number);
-        }
-        self.set(Field::Lines, u64::from(lines) + 1);
-    }
-
-    /// Writes one field; what it held is kept, to be put back.
-    fn damage(&mut self) {
-        let (field, value) = self.damaged_field();
-        self.repairs.push((field, self.host.get(field)));
-        self.set(field, value);
-    }
-
-    fn damaged_field(&mut self) -> (Field, u64) {
-        let (first, last) = self.year();
-        let point = self.numbers.below::<u8>(32);
-        let user = self.numbers.below::<u8>(64);
-        let open = self.open_point();
-        let Point { total, .. } = self.host.register.points[usize::from(open)];
-        let guarantee = self.host.register.accounts[usize::from(user)].guarantee;
-        let lines = self.host.register.lines;
-        let numbers = &mut self.numbers;
-        match numbers.below::<u8>(15) {
-            0 => (Field::Year, numbers.pick(&[0, 1999, 2099, 2100, 65_535])),
-            1 => {
-                let wrong = [u64::from(lines) + 1, 2_048, 2_049, 65_535];
-                (Field::Lines, numbers.pick(&wrong))
-            }
-            2 => (Field::Kind(point), numbers.pick(&[0, 1, 2, 3, 255])),
-            3 => (Field::Total(point), numbers.pick(&[0, 1, 10_000_000])),
-            4 => (Field::Total(open), u64::from(total).saturating_sub(1)),
-            5 => (Field::Rate(point), numbers.pick(&[0, 1, 1_000_000])),
-            6 => (Field::OnFile(user), numbers.pick(&[0, 1, 2, 255])),
-            7 => (
-                Field::Guarantee(user),
-                numbers.pick(&[0, 1, 1_000_000_000_000_001, u64::MAX]),
-            ),
-            8 => (Field::Commitment(user), guarantee + 1),
-            9 => {
-                let place = u16::from(open) * DAYS_IN_ROW as u16 + numbers.below::<u16>(366);
-                (Field::Free(place), u64::from(total) + 1)
-            }
-            10 => {
-                let place = numbers.below(TABLE_LENGTH as u64);
-                (Field::Free(place), numbers.below(2))
-            }
-            11 => {
-                let table = TABLE_LENGTH as u64;
-                (Field::TableLength, numbers.pick(&[0, table - 1, table + 1]))
-            }
-            12 => {
-                let ledger = LEDGER_LENGTH as u64;
-                let wrong = [0, ledger - 5, ledger - 1, ledger + 1, ledger + 5];
-                (Field::LedgerLength, numbers.pick(&wrong))
-            }
-            _ => {
-                let used = u64::from(lines) * NUMBERS_IN_LINE as u64;
-                let place = numbers.below::<u16>(used + 5);
-                let wrong = [
-                    0,
-                    2,
-                    4,
-                    32,
-                    64,
-                    u64::from(first) - 1,
-                    u64::from(last) + 1,
-                    10_000_000,
-                    4_284_967_296,
-                ];
-                (Field::Ledger(place), numbers.pick(&wrong))
-            }
-        }
-    }
+/// Two days of the calendar as a step has them.
+fn narrow(days: Option<(u32, u32)>) -> (u16, u16) {
+    let (first, last) = days.expect("days of the calendar");
+    let narrow = |day| u16::try_from(day).expect("a day of the calendar");
+    (narrow(first), narrow(last))
 }
