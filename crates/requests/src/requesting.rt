@@ -165,11 +165,11 @@ pub fn request_capacity(r: Register, free: &mut [u32], ledger: &mut [u32], q: Re
 {
     let decision = decide(r, &free[..], &ledger[..], q);
     match decision {
-        Decision::Grant(first, last, amount) => {
-            let booked = book(r, free, ledger, q, first, last, amount);
+        Decision::Grant(first, last, granted) => {
+            let booked = book(r, free, ledger, q, first, last, granted);
             Conferred {
                 register: booked,
-                answer: Conferral::Granted(amount),
+                answer: Conferral::Granted(granted),
             }
         }
         Decision::Refuse(why) => Conferred {
