@@ -35,10 +35,11 @@ pub fn add_line(r: Register, ledger: &mut [u32], l: Line) -> Register
     ensures register { λ v. ⌜ v ≡ withLines r (linesAfter r) ⌝ }
     ensures ledger { λ _. ⌜ now (ledger .exit) ≡ ledgerAfter r (now (ledger .entry)) l ⌝ }
 {
-    if register::LINES <= r.lines as usize {
+    let next = r.lines as usize;
+    if register::LINES <= next {
         return r;
     }
-    register::write_line(ledger, r.lines as usize, l);
+    register::write_line(ledger, next, l);
     let mut s = r;
     s.lines = r.lines + 1;
     s

@@ -10,14 +10,11 @@ use Rattle.conferral.proofs.bookings.add_line.Reads as reads
 use Rattle.conferral.proofs.bookings.add_line.Lts as lts
 use Rattle.register.proofs.write_line.Reads as write-line-reads
 
-cast-if1 : tie.Need-cast-if1
-cast-if1 c = search needs
+cast-next : tie.Need-cast-next
+cast-next c = search needs
 
 returns : tie.Need-returns
 returns c = let r = c .before .before .before .args .r in rw (lt-leb (r .lines + 1) lineCount (omega arith)) (refl, refl)
-
-cast-write-line : tie.Need-cast-write-line
-cast-write-line c = search needs
 
 write-line-requires : tie.Need-write-line-requires
 write-line-requires c κs = search needs
@@ -30,10 +27,9 @@ same-length c = search needs
 
 returns-2 : tie.Need-returns-2
 returns-2 c =
-    let st = c .before .before .before .before .before .before .before .before .before in
+    let st = c .before .before .before .before .before .before .before .before in
     rw (le-leb (st .args .r .lines + 1) lineCount (omega arith)) (refl, c .before .before .before .write-line .ensures)
 
 pub add-line-spec : {M : Type 1} → statement M
 add-line-spec =
-    tie.close
-    (tie.spec cast-if1 returns cast-write-line write-line-requires add-s same-length returns-2)
+    tie.close (tie.spec cast-next returns write-line-requires add-s same-length returns-2)
