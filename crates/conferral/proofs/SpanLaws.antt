@@ -1,8 +1,8 @@
 -- Laws of arrivals and of spans.
 -- Assumes nothing.
-use mathlib.Core.Path.{_≡_, refl, ap, _∙_}
+use mathlib.Core.Path.{_≡_, refl}
 use mathlib.Core.Bool.{Bool, true, false, cond, _&&_, and-true, and-false}
-use Prim.Native.Nat.{ℕ, _+_, _≤_, _<_}
+use Prim.Native.Nat.{ℕ, _+_, _≤_}
 use native.Mathlib.Omega.{arith}
 use lib.Dec.{leb}
 use borrow.Author.Tests.{leb-true, leb-false, le-leb, lt-leb}
@@ -11,7 +11,7 @@ use Rattle.calendar.specs.Days.{lastDay, between, monthLength, dayNumber}
 use Rattle.calendar.specs.ThermalYears.{isThermalYear, thermalFirst, thermalLast}
 use Rattle.calendar.specs.Deadlines.{nextFirst}
 use Rattle.calendar.specs.Answers.{dayIn, nextFirstAnswer}
-use Rattle.calendar.proofs.Ranges.{and-left, and-right, both, Within, within, is-between}
+use Rattle.calendar.proofs.Ranges.{and-left, and-right, both, Within, within}
 use Rattle.calendar.proofs.DateLaws.{month-next}
 use Rattle.register.proofs.CalendarLaws.{year-facts}
 use Rattle.conferral.specs.Spans.{arrives, spanFits, spanOk, spanWhere, annualAnswer, spanFrom}

@@ -1,18 +1,18 @@
 -- What an accepted request does, and that every request leaves a sound register sound. Demand 3 rests on these laws.
 -- Assumes nothing.
 use mathlib.Core.Path.{_≡_, refl, sym, ap, _∙_}
-use mathlib.Core.Bool.{Bool, true, not, _||_}
+use mathlib.Core.Bool.{true, not, _||_}
 use mathlib.Core.Logic.{⊎-elim, _⊎_, inl, inr}
-use Prim.Native.Nat.{ℕ, _+_, _*_, _-_, _≤_, _<_}
+use Prim.Native.Nat.{ℕ, _+_, _-_, _≤_, _<_}
 use native.Mathlib.Nat.{mul-le-mul}
 use native.Mathlib.Omega.{arith}
-use lib.Dec.{eqb, ltb}
+use lib.Dec.{eqb}
 use lib.ListN.{getD}
 use borrow.Author.Tests.{ltb-true, leb-true, eq-eqb}
 use Rattle.calendar.specs.Days.{between}
 use Rattle.calendar.specs.ThermalYears.{inThermalYear, thermalMonthFirst}
 use Rattle.calendar.proofs.Ranges.{Within, within}
-use Rattle.register.specs.Limits.{pointCount, lineCount, mostAmount}
+use Rattle.register.specs.Limits.{pointCount, lineCount}
 use Rattle.register.specs.Registers.{State, pointAt, accountAt}
 use Rattle.register.specs.Ledger.{lineAt}
 use Rattle.register.specs.Amounts.{entryOf, freeOn}

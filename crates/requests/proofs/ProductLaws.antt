@@ -1,22 +1,22 @@
 -- Laws of products: their spans and their deadlines, as the calendar answers them.
 -- Assumes nothing.
 use mathlib.Core.Path.{_≡_, refl, sym, ap, _∙_}
-use mathlib.Core.Bool.{Bool, true, false, cond, _&&_, and-true}
-use Prim.Native.Nat.{ℕ, _≤_}
+use mathlib.Core.Bool.{Bool, true, false, cond, and-true}
+use Prim.Native.Nat.{ℕ}
 use native.Mathlib.Omega.{arith}
 use lib.Dec.{leb}
 use borrow.Author.Tests.{le-leb}
 use Rattle.calendar.specs.declared.deadlines.Timeliness.the-variants.{InTime, Late}
 use Rattle.calendar.specs.declared.thermal_years.Span.the-variants.{OutsideCalendar}
 use Rattle.calendar.specs.Days.{lastDay, between, dayNumber}
-use Rattle.calendar.specs.ThermalYears.{isThermalYear, thermalFirst, thermalLast, isThermalMonth, calendarYear, calendarMonth, thermalMonthFirst, thermalMonthLast}
+use Rattle.calendar.specs.ThermalYears.{isThermalYear, thermalLast, isThermalMonth, calendarYear, calendarMonth, thermalMonthFirst, thermalMonthLast}
 use Rattle.calendar.specs.Deadlines.{inTimeOwn, inTimePreceding}
 use Rattle.calendar.specs.Answers.{monthAnswer, ownAnswer, precedingAnswer}
 use Rattle.calendar.proofs.Ranges.{and-left, and-right, both, within, month-of-test}
 use Rattle.calendar.proofs.DateLaws.{month-least}
 use Rattle.calendar.proofs.ThermalYearLaws.{month-days, thermal-month-from, thermal-month-to}
 use Rattle.register.proofs.CalendarLaws.{year-facts}
-use Rattle.conferral.specs.Spans.{arrives, spanFits, spanWhere, annualAnswer}
+use Rattle.conferral.specs.Spans.{arrives, spanFits, annualAnswer}
 use Rattle.conferral.proofs.SpanLaws.{span-fits}
 use Rattle.requests.specs.declared.products.Product.{Product}
 use Rattle.requests.specs.declared.products.Product.the-variants.{Annual, Month, Day}

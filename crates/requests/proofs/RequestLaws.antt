@@ -1,6 +1,6 @@
 -- Laws of the request: what its questions tell, and the number that they give.
 -- Assumes nothing.
-use mathlib.Core.Path.{_≡_, refl, sym, ap, ap₂, _∙_, subst}
+use mathlib.Core.Path.{_≡_, refl, sym, ap, ap₂, _∙_}
 use mathlib.Core.Bool.{Bool, true, false, _&&_}
 use mathlib.Core.List.{List}
 use Prim.Native.Nat.{ℕ, zero, suc, _+_, _≤_, _<_, min}
@@ -15,7 +15,7 @@ use Rattle.calendar.proofs.Ranges.{and-left, and-right, Within, within}
 use Rattle.calendar.proofs.SpanLaws.{chosen, unchosen}
 use Rattle.register.specs.declared.ledger.Line.{Line}
 use Rattle.register.specs.declared.registers.Register.{Register}
-use Rattle.register.specs.Limits.{pointCount, userCount, rowLength, mostAmount, mostRate}
+use Rattle.register.specs.Limits.{pointCount, userCount, rowLength, mostAmount}
 use Rattle.register.specs.Tests.{allBelow}
 use Rattle.register.specs.Ranges.{leastOf}
 use Rattle.register.specs.Registers.{State, state, pointAt, withLines}

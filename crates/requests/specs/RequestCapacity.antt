@@ -6,7 +6,6 @@ use mathlib.Core.List.{List, [], _∷_}
 use lib.Dec.{ltb}
 use lib.ListN.{getD}
 use Rattle.calendar.specs.Days.{between}
-use Rattle.register.specs.declared.answers.Refusal.{Refusal}
 use Rattle.register.specs.declared.registers.Register.{Register}
 use Rattle.register.specs.Limits.{pointCount, userCount, mostAmount}
 use Rattle.register.specs.Tests.{allBelow}

@@ -11,7 +11,7 @@ use Rattle.calendar.specs.declared.deadlines.Timeliness.{Timeliness}
 use Rattle.calendar.specs.declared.deadlines.Timeliness.the-variants.{InTime, Late, OutsideCalendar as NoDeadline}
 use Rattle.register.specs.declared.registers.Register.{Register}
 use Rattle.register.specs.Limits.{pointCount, userCount, tableLength, mostAmount, mostRate}
-use Rattle.register.specs.Registers.{State, pointAt}
+use Rattle.register.specs.Registers.{pointAt}
 use Rattle.register.specs.Answers.{numberOfRefusal, Question, numberOf}
 use Rattle.conferral.specs.Spans.{spanOk, spanWhere}
 use Rattle.conferral.specs.Bookings.{linesLeft}

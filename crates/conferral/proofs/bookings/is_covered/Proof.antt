@@ -3,7 +3,6 @@ use Prim.Native.Nat.{_+_, _-_}
 use borrow.Author.Tests.{lt-leb}
 use Rattle.conferral.proofs.BookingLaws.{same-leb}
 use native.Mathlib.Omega.{arith}
-use borrow.Author.Needs.{needs}
 use Rattle.conferral.proofs.bookings.is_covered.Statement.{statement}
 use Rattle.conferral.proofs.bookings.is_covered.Tie as tie
 use Rattle.conferral.proofs.bookings.is_covered.Reads as reads

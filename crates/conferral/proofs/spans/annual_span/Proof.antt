@@ -1,7 +1,6 @@
 use mathlib.Core.Path.{sym, _∙_}
 use Rattle.calendar.proofs.SpanLaws.{year-span, no-year}
 use Rattle.conferral.proofs.SpanLaws.{annual-from, no-annual}
-use native.Mathlib.Omega.{arith}
 use borrow.Author.Needs.{needs}
 use Rattle.conferral.proofs.spans.annual_span.Statement.{statement}
 use Rattle.conferral.proofs.spans.annual_span.Tie as tie

@@ -1,4 +1,3 @@
-use native.Mathlib.Omega.{arith}
 use borrow.Author.Needs.{needs}
 use Rattle.conferral.proofs.spans.span_from.Statement.{statement}
 use Rattle.conferral.proofs.spans.span_from.Tie as tie

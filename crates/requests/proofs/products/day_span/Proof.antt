@@ -1,5 +1,4 @@
 use mathlib.Core.Path.{sym, _∙_}
-use native.Mathlib.Omega.{arith}
 use borrow.Author.Needs.{needs}
 use Rattle.requests.proofs.products.day_span.Statement.{statement}
 use Rattle.requests.proofs.products.day_span.Tie as tie

@@ -1,7 +1,6 @@
 use mathlib.Core.Path.{ap, _∙_}
 use Rattle.requests.specs.Steps.{isTimely}
 use Rattle.requests.proofs.ProductLaws.{annual-in-time, month-in-time}
-use native.Mathlib.Omega.{arith}
 use borrow.Author.Needs.{needs}
 use Rattle.requests.proofs.products.is_in_time.Statement.{statement}
 use Rattle.requests.proofs.products.is_in_time.Tie as tie

@@ -1,4 +1,3 @@
-use native.Mathlib.Omega.{arith}
 use borrow.Author.Needs.{needs}
 use Rattle.requests.proofs.products.is_offered.Statement.{statement}
 use Rattle.requests.proofs.products.is_offered.Tie as tie

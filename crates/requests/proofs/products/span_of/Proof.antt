@@ -3,7 +3,6 @@ use mathlib.Core.Bool.{true}
 use borrow.Author.Tests.{not-true, not-false}
 use Rattle.conferral.specs.Spans.{arrives}
 use Rattle.requests.proofs.ProductLaws.{no-arrival, annual-span, month-span, day-span}
-use native.Mathlib.Omega.{arith}
 use borrow.Author.Needs.{needs}
 use Rattle.requests.proofs.products.span_of.Statement.{statement}
 use Rattle.requests.proofs.products.span_of.Tie as tie

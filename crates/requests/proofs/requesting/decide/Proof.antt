@@ -5,7 +5,6 @@ use Rattle.register.specs.Registers.{State, state, pointAt, accountAt}
 use Rattle.register.specs.Order.{isOpen, isOnFile, inOrder}
 use Rattle.requests.specs.RequestCapacity.{requestFields, spanQuestions, requestQuestions}
 use Rattle.requests.proofs.RequestLaws.{fields, ready, decides-too}
-use native.Mathlib.Omega.{arith}
 use borrow.Author.Needs.{needs}
 use Rattle.requests.proofs.requesting.decide.Statement.{statement}
 use Rattle.requests.proofs.requesting.decide.Tie as tie

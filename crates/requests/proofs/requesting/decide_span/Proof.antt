@@ -7,7 +7,6 @@ use Rattle.requests.specs.Products.{monthOk}
 use Rattle.requests.specs.RequestCapacity.{spanFirst, spanLast, amountQuestions, spanQuestions}
 use Rattle.requests.specs.Steps.{Spanned}
 use Rattle.requests.proofs.RequestLaws.{fields, spanned, no-span, decides-too}
-use native.Mathlib.Omega.{arith}
 use borrow.Author.Needs.{needs}
 use Rattle.requests.proofs.requesting.decide_span.Statement.{statement}
 use Rattle.requests.proofs.requesting.decide_span.Tie as tie

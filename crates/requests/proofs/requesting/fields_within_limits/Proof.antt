@@ -1,4 +1,3 @@
-use native.Mathlib.Omega.{arith}
 use borrow.Author.Needs.{needs}
 use Rattle.requests.proofs.requesting.fields_within_limits.Statement.{statement}
 use Rattle.requests.proofs.requesting.fields_within_limits.Tie as tie

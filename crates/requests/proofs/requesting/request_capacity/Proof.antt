@@ -5,7 +5,6 @@ use Rattle.requests.specs.declared.requesting.Decision.the-variants.{Gra
 use Rattle.requests.specs.RequestCapacity.{requestQuestions}
 use Rattle.requests.specs.Steps.{Decides}
 use Rattle.requests.proofs.AnswerLaws.{bookable, request-granted, request-refused}
-use native.Mathlib.Omega.{arith}
 use borrow.Author.Needs.{needs}
 use Rattle.requests.proofs.requesting.request_capacity.Statement.{statement}
 use Rattle.requests.proofs.requesting.request_capacity.Tie as tie
