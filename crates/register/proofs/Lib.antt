@@ -8,6 +8,7 @@ pub mod OrderLaws
 pub mod OrderFacts
 pub mod OrderKept
 pub mod AnswerLaws
+pub mod QuestionLaws
 pub mod FreshLaws
 pub mod ReportLaws
 pub mod FreshKept
