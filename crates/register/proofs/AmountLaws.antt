@@ -1,20 +1,21 @@
 -- Laws of the free amounts.
 -- Assumes nothing.
-use mathlib.Core.Path.{_≡_, sym, ap, ap₂, _∙_}
+use mathlib.Core.Path.{_≡_, sym, ap, ap₂, _∙_, subst}
 use mathlib.Core.Bool.{Bool, true, false, cond}
 use mathlib.Core.List.{List}
 use Prim.Native.Nat.{ℕ, _+_, _*_, _-_, _/_, _%_, _≤_, _<_}
 use native.Mathlib.Nat.{zero-add}
+use native.Mathlib.Decide.{decLe, decLt}
 use native.Mathlib.Omega.{arith}
 use lib.Dec.{ltb}
 use lib.ListN.{getD, set, length}
 use borrow.Author.Tests.{lt-ltb, le-ltb}
-use Rattle.calendar.specs.ThermalYears.{isThermalYear}
+use Rattle.calendar.specs.ThermalYears.{isThermalYear, inThermalYear}
 use Rattle.register.specs.declared.points.Point.{Point}
 use Rattle.register.specs.Limits.{pointCount, rowLength, tableLength}
 use Rattle.register.specs.Ranges.{replaced}
 use Rattle.register.specs.Registers.{pointAt}
-use Rattle.register.specs.Amounts.{yearDays, daysOfYear, entryAt, capacity, lessBy, taken, freedRow, capacityAt, freedTable}
+use Rattle.register.specs.Amounts.{yearDays, daysOfYear, entryAt, entryOf, entryIn, capacity, lessBy, taken, freedRow, capacityAt, freedTable}
 use Rattle.register.proofs.RangeLaws.{replaced-step, replaced-join, replaced-same, replaced-length, replaced-in, replaced-out}
 
 -- the days of a thermal year within limits
@@ -25,6 +26,15 @@ days-of y h = rw h
 pub no-days : (y : ℕ) → isThermalYear y ≡ false → daysOfYear y ≡ 0
 unfolding daysOfYear
 no-days y h = rw h
+
+-- the entry of a day of the year
+pub entry-in : (y p d : ℕ) → inThermalYear y d ≡ true → entryIn y p d ≡ entryOf y p d
+unfolding entryIn
+entry-in y p d h = rw h
+
+pub entry-out : (y p d : ℕ) → inThermalYear y d ≡ false → entryIn y p d ≡ 0
+unfolding entryIn
+entry-out y p d h = rw h
 
 -- a day of the year, and one after its end
 pub capacity-in : (days : ℕ) (p : Point) (k : ℕ) → k < days → capacity days p k ≡ p .total
@@ -92,6 +102,20 @@ taken-in f at n amount k h b = replaced-in f at n (lessBy f at amount) 0 k h b
 pub taken-out : (f : List ℕ) (at n amount k : ℕ) → (at ≤ k → k < at + n → ⊥) → getD (taken f at n amount) k 0 ≡ getD f k 0
 unfolding taken
 taken-out f at n amount k h = replaced-out f at n (lessBy f at amount) 0 k h
+
+-- what holds of the k-th place from `at` on, for each k below n, holds of each place there
+pub each-place : (P : ℕ → Type 0) (at n : ℕ) → ((k : ℕ) → k < n → P (at + k)) → (j : ℕ) → at ≤ j → j < at + n → P j
+each-place P at n h j lo hi = let e : at + (j - at) ≡ j = omega arith in subst P e (h (j - at) (omega arith))
+
+-- what is taken leaves no more than there was
+pub taken-le : (f : List ℕ) (at n amount j : ℕ) → at + n ≤ length f → getD (taken f at n amount) j 0 ≤ getD f j 0
+taken-le f at n amount j size = go (decLe at j) (decLt j (at + n))
+  where
+    go : Dec (at ≤ j) → Dec (j < at + n) → getD (taken f at n amount) j 0 ≤ getD f j 0
+    go (yes a) (yes b) =
+        each-place (λ (i : ℕ). getD (taken f at n amount) i 0 ≤ getD f i 0) at n (λ k h. omega (arith, taken-in f at n amount k h (omega arith))) j a b
+    go (yes a) (no b) = omega (arith, taken-out f at n amount j (λ lo hi. b hi))
+    go (no a) b = omega (arith, taken-out f at n amount j (λ lo hi. a lo))
 
 -- ---- rows and tables
 -- what a freed row has: its point's capacity in its own places, and what was there in the others

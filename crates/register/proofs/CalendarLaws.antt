@@ -1,11 +1,11 @@
 -- The gas-days of a thermal year.
 -- Assumes nothing.
-use mathlib.Core.Path.{_≡_}
-use mathlib.Core.Bool.{true}
+use mathlib.Core.Path.{_≡_, sym, ap₂, _∙_}
+use mathlib.Core.Bool.{Bool, true, false}
 use Prim.Native.Nat.{ℕ, _+_, _≤_}
 use native.Mathlib.Omega.{arith}
-use Rattle.calendar.specs.Days.{leap}
-use Rattle.calendar.specs.ThermalYears.{isThermalYear, thermalFirst, thermalLast}
+use Rattle.calendar.specs.Days.{leap, between}
+use Rattle.calendar.specs.ThermalYears.{isThermalYear, inThermalYear, thermalFirst, thermalLast, YearSpan}
 use Rattle.calendar.proofs.Ranges.{Within, within, cond-le}
 use Rattle.calendar.proofs.ThermalYearLaws.{thermal-next, thermal-days, thermal-order, thermal-last}
 use Rattle.register.specs.Amounts.{yearDays}
@@ -32,3 +32,11 @@ year-facts y h =
       ordered = o;
       last = thermal-last y w;
     }
+
+-- a test of a day against the span of a year
+pub in-year : (y first last d : ℕ) (b : Bool) → YearSpan y first last → between first last d ≡ b → inThermalYear y d ≡ b
+in-year y first last d b s h =
+    rw (s .year) (sym (ap₂ (λ (f l : ℕ). between f l d) (s .begins) (s .ends)) ∙ h)
+
+pub in-no-year : (y d : ℕ) → isThermalYear y ≡ false → inThermalYear y d ≡ false
+in-no-year y d h = rw h

@@ -4,9 +4,10 @@ use mathlib.Core.Path.{_≡_, ap, _∙_}
 use mathlib.Core.Bool.{true}
 use mathlib.Core.List.{List}
 use Prim.Native.Nat.{ℕ, _<_}
-use native.Mathlib.Decide.{ℕ-discrete}
+use native.Mathlib.Decide.{ℕ-discrete, decLt}
+use native.Mathlib.Omega.{arith}
 use lib.ListN.{getD, set, length}
-use lib.Seq.{getD-set-same, getD-set-other}
+use lib.Seq.{getD-set-same, getD-set-other, set-out}
 use Rattle.register.specs.declared.points.Point.{Point}
 use Rattle.register.specs.declared.accounts.Account.{Account}
 use Rattle.register.specs.declared.ledger.Line.{Line}
@@ -37,6 +38,15 @@ account-same us u a b = getD-set-same us u a absentUser b
 
 pub account-other : (us : List Account) (u : ℕ) (a : Account) (i : ℕ) → (i ≡ u → ⊥) → accountAt (set us u a) i ≡ accountAt us i
 account-other us u a i ne = getD-set-other us u i a absentUser ne
+
+-- an account replaced by one that has a field alike: nobody's field is changed
+pub field-kept : (f : Account → ℕ) (us : List Account) (u : ℕ) (a : Account) → f a ≡ f (accountAt us u) → (i : ℕ) → f (accountAt (set us u a) i) ≡ f (accountAt us i)
+field-kept f us u a e i = go (ℕ-discrete i u) (decLt u (length us))
+  where
+    go : Dec (i ≡ u) → Dec (u < length us) → f (accountAt (set us u a) i) ≡ f (accountAt us i)
+    go (no ne) h = ap f (account-other us u a i ne)
+    go (yes p) (yes h) = rw p (ap f (account-same us u a h) ∙ e)
+    go (yes p) (no h) = rw (set-out us u a (omega arith))
 
 -- a line stays in order where its user stays on file and its point stays open
 pub line-carry : (y : ℕ) (ps qs : List Point) (us vs : List Account) (l : Line)

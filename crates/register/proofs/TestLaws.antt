@@ -1,7 +1,7 @@
 -- Laws of tests of many things at once.
 -- Assumes nothing.
 use mathlib.Core.Path.{_≡_, refl, sym, ap, _∙_, subst}
-use mathlib.Core.Bool.{Bool, true, false, _&&_, _||_, false≢true}
+use mathlib.Core.Bool.{Bool, true, false, _&&_, _||_, false≢true, true≢false}
 use mathlib.Core.Logic.{⊎-elim, _⊎_, inl, inr}
 use mathlib.Core.List.{List, [], _∷_}
 use Prim.Native.Nat.{ℕ, zero, suc, _+_, _≤_, _<_}
@@ -95,6 +95,16 @@ unfolding allBelow
 all-of t zero h = refl
 all-of t (suc n) h =
     both (allBelow n t) (t n) (all-of t n (λ i l. h i (omega arith))) (h n (omega arith))
+
+-- a test that does not hold of all fails at one
+pub fails-at : (t : ℕ → Bool) (n : ℕ) → allBelow n t ≡ false → (k : ℕ) × ((k < n) × (t k ≡ false))
+unfolding allBelow
+fails-at t zero h = absurd (true≢false h)
+fails-at t (suc n) h = go (allBelow n t) (λ e. fails-at t n e) refl h
+  where
+    go : (b : Bool) → (allBelow n t ≡ false → (k : ℕ) × ((k < n) × (t k ≡ false))) → allBelow n t ≡ b → (b && t n) ≡ false → (k : ℕ) × ((k < suc n) × (t k ≡ false))
+    go true earlier e f = (n, (omega arith, f))
+    go false earlier e f = let r = earlier e in (r .0, (omega (arith, r .1 .0), r .1 .1))
 
 -- tests that agree below n
 pub all-same : (t u : ℕ → Bool) (n : ℕ) → ((i : ℕ) → i < n → t i ≡ u i) → allBelow n t ≡ allBelow n u

@@ -5,7 +5,7 @@ use mathlib.Core.Bool.{cond}
 use mathlib.Core.List.{List}
 use lib.Dec.{ltb}
 use lib.ListN.{getD, replicate}
-use Rattle.calendar.specs.ThermalYears.{isThermalYear, thermalFirst, thermalLast}
+use Rattle.calendar.specs.ThermalYears.{isThermalYear, inThermalYear, thermalFirst, thermalLast}
 use Rattle.register.specs.declared.points.Point.{Point}
 use Rattle.register.specs.Limits.{rowLength, tableLength}
 use Rattle.register.specs.Ranges.{replaced}
@@ -30,6 +30,10 @@ entryAt p k = rowLength * p + k
 -- the entry of gas-day d of thermal year Y, for point p. For a day outside the year it means nothing
 abbrev pub entryOf : ℕ → ℕ → ℕ → ℕ
 entryOf y p d = entryAt p (d - thermalFirst y)
+
+-- the same, and 0 for a day outside the year
+unfoldable pub entryIn : ℕ → ℕ → ℕ → ℕ
+entryIn y p d = cond (inThermalYear y d) (entryOf y p d) 0
 
 -- what can be free at a point on the k-th day from 1 October of a year with so many days: the total, and nothing after the
 -- year's end

@@ -23,6 +23,10 @@ use Rattle.register.specs.Amounts.{yearDays, entryAt, capacity}
 abbrev pub isOpen : Point → Bool
 isOpen p = ltb 0 (p .kind)
 
+-- "1 direct"
+abbrev pub isDirect : Point → Bool
+isDirect p = eqb (p .kind) 1
+
 -- "A point is closed, or has a kind (1 direct, 2 thermoelectric), a total of 1 to 9,999,999 and a rate of 0 to 999,999": a closed
 -- one has nothing set
 abbrev pub closedTests : Point → List Bool

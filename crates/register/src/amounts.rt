@@ -3,7 +3,7 @@ ghost use mathlib.Core.Path.{_≡_};
 ghost use Prim.Native.Nat.{_-_, min};
 ghost use lib.ListN.{length, replicate};
 ghost use Rattle.register.specs.Ranges.{leastOf};
-ghost use Rattle.register.specs.Amounts.{daysOfYear, entryAt, capacity, taken, freedRow, freedTable};
+ghost use Rattle.register.specs.Amounts.{daysOfYear, entryAt, entryIn, capacity, taken, freedRow, freedTable};
 use crate::limits::POINTS;
 use crate::limits::ROW;
 use crate::points::Point;
@@ -25,6 +25,23 @@ pub fn entry_at(point: u8, k: u16) -> usize
     ensures { λ r. ⌜ r ≡ entryAt point k ⌝ }
 {
     ROW * (point as usize) + (k as usize)
+}
+
+// The entry of a gas-day of a thermal year, for a point; 0 for a day outside the year.
+pub fn entry_of(year: u16, point: u8, day: u16) -> usize
+    ensures { λ r. ⌜ r ≡ entryIn year point day ⌝ }
+{
+    let span = calendar::thermal_year(year);
+    match span {
+        Span::Days(first, last) => {
+            if (first <= day) & (day <= last) {
+                entry_at(point, day - first)
+            } else {
+                0
+            }
+        }
+        Span::OutsideCalendar => 0,
+    }
 }
 
 // What can be free at a point on the k-th day from 1 October: its total, and nothing after the year's end.

@@ -1,6 +1,6 @@
 // Delivery points.
 ghost use mathlib.Core.Path.{_≡_};
-ghost use Rattle.register.specs.Order.{isOpen, pointOk};
+ghost use Rattle.register.specs.Order.{isOpen, isDirect, pointOk};
 use crate::limits::MOST_AMOUNT;
 use crate::limits::MOST_RATE;
 
@@ -17,6 +17,13 @@ pub fn is_open(p: Point) -> bool
     ensures { λ r. ⌜ r ≡ isOpen p ⌝ }
 {
     0 < p.kind
+}
+
+// A direct point is of kind 1, a thermoelectric one of kind 2.
+pub fn is_direct(p: Point) -> bool
+    ensures { λ r. ⌜ r ≡ isDirect p ⌝ }
+{
+    p.kind == 1
 }
 
 // Closed with nothing set, or open within the limits. All tests are made, with no branch.

@@ -8,7 +8,7 @@ ghost use Rattle.register.specs.Registers.{state};
 ghost use Rattle.register.specs.Amounts.{entryOf};
 ghost use Rattle.register.specs.Answers.{numberOfVerdict, numberOfReport, amountOfReport};
 ghost use Rattle.register.specs.Reports.{reportNumber, reportAmount};
-use crate::amounts::entry_at;
+use crate::amounts::entry_of;
 use crate::answers::Refusal;
 use crate::answers::Report;
 use crate::answers::Verdict;
@@ -16,7 +16,6 @@ use crate::limits::POINTS;
 use crate::order::in_order;
 use crate::points::is_open;
 use crate::registers::Register;
-use calendar::Span;
 
 // Questions 1, 2, 3 and 8.
 fn report_answer(r: Register, free: &[u32], ledger: &[u32], point: u8, day: u16) -> Verdict
@@ -43,12 +42,7 @@ fn free_on(year: u16, free: &[u32], point: u8, day: u16) -> u32
     requires { ⌜ (inThermalYear year day ≡ true) × (entryOf year point day < length (now free)) ⌝ }
     ensures { λ v. ⌜ v ≡ getD (now (free .entry)) (entryOf year point day) 0 ⌝ }
 {
-    let span = calendar::thermal_year(year);
-    match span {
-        Span::Days(first, _) => free[entry_at(point, day - first)],
-        // Not reached: the day lies in the year.
-        Span::OutsideCalendar => 0,
-    }
+    free[entry_of(year, point, day)]
 }
 
 // The free amount of a point and gas-day.

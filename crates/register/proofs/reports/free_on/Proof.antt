@@ -1,63 +1,29 @@
-use mathlib.Core.Path.{_≡_, sym, _∙_}
-use mathlib.Core.Bool.{false, false≢true}
-use Rattle.calendar.specs.Days.{between}
-use Rattle.calendar.specs.ThermalYears.{isThermalYear, thermalFirst, thermalLast, YearSpan}
-use Rattle.calendar.proofs.Ranges.{and-left}
-use Rattle.calendar.proofs.SpanLaws.{year-span, no-year}
-use Rattle.register.proofs.ReportLaws.{day-within}
+use mathlib.Core.Path.{_≡_, _∙_}
+use Rattle.register.specs.Amounts.{entryOf}
+use Rattle.register.proofs.AmountLaws.{entry-in}
 use native.Mathlib.Omega.{arith}
 use borrow.Author.Needs.{needs}
 use Rattle.register.proofs.reports.free_on.Statement.{statement}
 use Rattle.register.proofs.reports.free_on.Tie as tie
+use Rattle.register.proofs.reports.free_on.Reads as reads
+use Rattle.register.proofs.reports.free_on.Lts as lts
+use Rattle.register.proofs.amounts.entry_of.Reads as entry-of-reads
 
--- this is the year's span
-span : (c : tie.After-known-told) → YearSpan (c .before .before .before .before .before .args .year) (c .before .span .given .0 .0) (c .before .span .given .0 .1 .0)
-span c = year-span _ _ _ (sym (c .before .before .before .thermal-year .ensures) ∙ c .before .span .given .1)
+-- the entry, which lies in the table
+entry : (c : tie.After-entry-of) → (let a = c .before .before .args in c .entry-of .result ≡ entryOf (a .year) (a .point) (a .day))
+entry c = let st = c .before .before in c .entry-of .ensures ∙ entry-in (st .args .year) (st .args .point) (st .args .day) (st .pre .0)
 
-thermal-year-requires : tie.Need-thermal-year-requires
-thermal-year-requires c κs = search needs
-
-enum-known-span : tie.Need-enum-known-span
-enum-known-span c = search needs
-
-sub-entry-at : tie.Need-sub-entry-at
-sub-entry-at c =
-    let st = c .before .before .before .before .before in
-    omega (arith, span c .begins, day-within (st .args .year) (st .args .day) (st .pre .0) .from)
-
-entry-at-requires : tie.Need-entry-at-requires
-entry-at-requires c κs = search needs
+entry-of-requires : tie.Need-entry-of-requires
+entry-of-requires c κs = search needs
 
 mul-result : tie.Need-mul-result
-mul-result c = omega (arith, c .entry-at .ensures, span (c .before) .begins, c .before .before .before .before .before .before .pre .1)
+mul-result c = omega (arith, entry c, c .before .before .pre .1)
 
 shared-slice-read-result : tie.Need-shared-slice-read-result
-shared-slice-read-result c =
-    omega (arith, c .before .entry-at .ensures, span (c .before .before) .begins, c .before .before .before .before .before .before .before .pre .1)
-
-enum-told : tie.Need-enum-told
-enum-told c = search needs
+shared-slice-read-result c = omega (arith, entry (c .before), c .before .before .before .pre .1)
 
 returns : tie.Need-returns
-returns c = rw (c .before .entry-at .ensures, span (c .before .before) .begins)
-
-returns-2 : tie.Need-returns-2
-returns-2 c =
-    let st = c .before .before .before .before in
-    let y = st .args .year in
-    let no : isThermalYear y ≡ false = no-year y (sym (c .before .before .thermal-year .ensures) ∙ c .enum-told .given .1) in
-    absurd (false≢true (sym no ∙ and-left (isThermalYear y) (between (thermalFirst y) (thermalLast y) (st .args .day)) (st .pre .0)))
+returns c = rw (entry (c .before))
 
 pub free-on-spec : {M : Type 1} → statement M
-free-on-spec =
-    tie.close
-    (tie.spec
-    thermal-year-requires
-    enum-known-span
-    sub-entry-at
-    entry-at-requires
-    mul-result
-    shared-slice-read-result
-    enum-told
-    returns
-    returns-2)
+free-on-spec = tie.close (tie.spec entry-of-requires mul-result shared-slice-read-result returns)
