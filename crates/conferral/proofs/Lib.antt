@@ -1,3 +1,3 @@
 pub mod SpanLaws
-pub mod BookingLaws
+pub mod RoomLaws
 pub mod BookedLaws

@@ -1,18 +1,21 @@
 -- Document 01, "The changing calls": what a grant does to the register and to the two lists.
 -- Assumes nothing.
 use Prim.Native.Nat.{ℕ, _+_}
-use mathlib.Core.Bool.{Bool, cond}
-use mathlib.Core.List.{List}
+use mathlib.Core.Bool.{Bool, cond, _&&_}
+use mathlib.Core.List.{List, [], _∷_}
 use lib.Dec.{leb, ltb}
-use lib.IntN.{ℤ, pos}
+use lib.IntN.{pos}
 use Rattle.register.specs.declared.accounts.Account.{Account}
 use Rattle.register.specs.declared.ledger.Line.{Line}
 use Rattle.register.specs.declared.registers.Register.{Register}
-use Rattle.register.specs.Limits.{userCount, lineCount}
-use Rattle.register.specs.Registers.{State, state, pointAt, accountAt, withLines, withAccount}
+use Rattle.register.specs.Limits.{pointCount, userCount, lineCount, mostAmount}
+use Rattle.register.specs.Tests.{every}
+use Rattle.register.specs.Registers.{State, state, pointAt, accountAt, withCommitment, withLines, withAccount}
 use Rattle.register.specs.Ledger.{withLine}
 use Rattle.register.specs.Amounts.{spanDays, entryOf, taken}
-use Rattle.register.specs.Charges.{chargeWord, charged}
+use Rattle.register.specs.Charges.{charge}
+use Rattle.conferral.specs.declared.bookings.Grant.{Grant}
+use Rattle.conferral.specs.Spans.{spanInYear}
 
 -- question 11: "Does the guarantee cover commitment plus charge"
 abbrev pub covers : Account → ℕ → Bool
@@ -22,43 +25,25 @@ covers a c = leb (a .commitment + c) (a .guarantee)
 abbrev pub linesLeft : Register → ℕ → Bool
 linesLeft r n = leb (r .lines + n) lineCount
 
--- "its charge joins the commitment"
-abbrev pub withCharge : Register → ℕ → ℕ → Register
-withCharge r u c = withAccount r u (charged (accountAt (r .accounts) u) c)
-
--- the same, where there is such a user
-abbrev pub registerCharged : Register → ℕ → ℕ → Register
-registerCharged r u c = cond (ltb u userCount) (withCharge r u c) r
-
--- "A ledger line has user, point, kind (1 annual, 2 month, 3 day), first day and a signed amount"
-abbrev pub line : ℕ → ℕ → ℕ → ℕ → ℤ → Line
-line u p kind first amount = record { user = u; point = p; kind = kind; first = first; amount = amount }
-
--- a line after the used ones, and their count with it; a full ledger is left
-abbrev pub linesAfter : Register → ℕ
-linesAfter r = cond (linesLeft r 1) (r .lines + 1) (r .lines)
-
-abbrev pub ledgerAfter : Register → List ℕ → Line → List ℕ
-ledgerAfter r ls l = cond (linesLeft r 1) (withLine ls (r .lines) l) ls
-
--- a grant: to a user at a point, of an amount, on each day from first to last; its kind is that of its ledger line
-pub record Grant : Type 0 where
-  pub user : ℕ
-  pub point : ℕ
-  pub kind : ℕ
-  pub first : ℕ
-  pub last : ℕ
-  pub amount : ℕ
-
+-- a grant is to a user at a point, of an amount on each day from first to last
 abbrev pub daysOf : Grant → ℕ
 daysOf g = spanDays (g .first) (g .last)
 
--- the charge of a grant, at the rate of its point
+-- "A charge is amount × days of the span × rate.": at the rate of the point
 abbrev pub chargeOf : Register → Grant → ℕ
-chargeOf r g = chargeWord (g .amount) (daysOf g) (pointAt (r .points) (g .point) .rate)
+chargeOf r g = charge (g .amount) (daysOf g) (pointAt (r .points) (g .point) .rate)
 
+-- "its charge joins the commitment"
+abbrev pub committed : Account → ℕ → Account
+committed a c = withCommitment a (a .commitment + c)
+
+abbrev pub withCharge : Register → ℕ → ℕ → Register
+withCharge r u c = withAccount r u (committed (accountAt (r .accounts) u) c)
+
+-- "A ledger line has user, point, kind (1 annual, 2 month, 3 day), first day and a signed amount"
 abbrev pub lineOf : Grant → Line
-lineOf g = line (g .user) (g .point) (g .kind) (g .first) (pos (g .amount))
+lineOf g =
+    record { user = g .user; point = g .point; kind = g .kind; first = g .first; amount = pos (g .amount) }
 
 -- "The grant is taken from each of those days, its charge joins the commitment, one line is written."
 unfoldable pub booked : State → Grant → State
@@ -66,3 +51,26 @@ booked s g =
     state (withLines (withCharge (s .register) (g .user) (chargeOf (s .register) g)) (s .register .lines + 1))
     (taken (s .free) (entryOf (s .register .year) (g .point) (g .first)) (daysOf g) (g .amount))
     (withLine (s .ledger) (s .register .lines) (lineOf g))
+
+-- a grant whose fields are within limits
+abbrev pub limitTests : ℕ → Grant → List Bool
+limitTests y g =
+    spanInYear y (g .first) (g .last)
+    ∷ ltb (g .user) userCount
+    ∷ ltb (g .point) pointCount
+    ∷ leb (g .amount) mostAmount
+    ∷ []
+
+unfoldable pub withinLimits : ℕ → Grant → Bool
+withinLimits y g = every (limitTests y g)
+
+-- one whose charge the user's guarantee covers too
+unfoldable pub isCovered : Register → Grant → Bool
+isCovered r g = withinLimits (r .year) g && covers (accountAt (r .accounts) (g .user)) (chargeOf r g)
+
+-- where a line is left as well it is booked, and else the register is left
+unfoldable pub hasRoom : Register → Grant → Bool
+hasRoom r g = isCovered r g && linesLeft r 1
+
+unfoldable pub bookAfter : State → Grant → State
+bookAfter s g = cond (hasRoom (s .register) g) (booked s g) s

@@ -1,12 +1,12 @@
 -- Document 01, question 8: when a call may arrive, and which span it may have.
 -- Assumes nothing.
 use Prim.Native.Nat.{ℕ, _+_}
-use mathlib.Core.Bool.{Bool, cond, _&&_}
+use mathlib.Core.Bool.{Bool, true, false, cond, _&&_}
 use lib.Dec.{leb}
-use Rattle.calendar.specs.declared.dates.GasDay.{GasDay}
-use Rattle.calendar.specs.declared.dates.GasDay.the-variants.{Day, OutsideCalendar as NoDay}
 use Rattle.calendar.specs.declared.thermal_years.Span.{Span}
 use Rattle.calendar.specs.declared.thermal_years.Span.the-variants.{Days, OutsideCalendar}
+use Rattle.calendar.specs.declared.deadlines.Timeliness.{Timeliness}
+use Rattle.calendar.specs.declared.deadlines.Timeliness.the-variants.{InTime, Late, OutsideCalendar as NoDeadline}
 use Rattle.calendar.specs.Days.{between, dayNumber}
 use Rattle.calendar.specs.ThermalYears.{isThermalYear, thermalFirst, thermalLast}
 use Rattle.calendar.specs.Deadlines.{nextFirst}
@@ -19,6 +19,10 @@ arrives y a = isThermalYear y && between (dayNumber y 9 1) (dayNumber (y + 1) 9 
 abbrev pub spanFits : ℕ → ℕ → ℕ → Bool
 spanFits y first last = leb (thermalFirst y) first && leb first last && leb last (thermalLast y)
 
+-- the same, and that the year is within limits
+abbrev pub spanInYear : ℕ → ℕ → ℕ → Bool
+spanInYear y first last = isThermalYear y && spanFits y first last
+
 -- question 8 of an arrival and a span
 abbrev pub spanOk : ℕ → ℕ → ℕ → ℕ → Bool
 spanOk y a first last = arrives y a && spanFits y first last
@@ -30,9 +34,10 @@ spanWhere t first last = cond t (Days first last) OutsideCalendar
 -- "from the first of the month after arrival to the year's end", where that is a span of the year
 unfoldable pub annualAnswer : ℕ → ℕ → Span
 annualAnswer y a =
-    spanWhere (isThermalYear y && spanFits y (nextFirst a) (thermalLast y)) (nextFirst a) (thermalLast y)
+    spanWhere (spanInYear y (nextFirst a) (thermalLast y)) (nextFirst a) (thermalLast y)
 
--- from a day to the last of those from first to last, where it is one of them (a term of a private contract)
-abbrev pub spanFrom : GasDay → ℕ → ℕ → Span
-spanFrom (Day d) first last = spanWhere (between first last d) d last
-spanFrom NoDay first last = OutsideCalendar
+-- question 9: "In time?", as the calendar answers it
+abbrev pub isTimely : Timeliness → Bool
+isTimely InTime = true
+isTimely Late = false
+isTimely NoDeadline = false

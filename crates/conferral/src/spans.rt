@@ -1,11 +1,13 @@
 // When a call may arrive, and the span to the year's end.
 ghost use mathlib.Core.Path.{_≡_};
-ghost use Rattle.conferral.specs.Spans.{arrives, annualAnswer, spanFrom};
+ghost use Rattle.conferral.specs.Spans.{arrives, spanInYear, annualAnswer, isTimely};
+ghost use Rattle.conferral.specs.Steps.{spanFrom};
 use calendar::GasDay;
 use calendar::Span;
+use calendar::Timeliness;
 
-// The days of September, the month before a thermal year.
-const SEPTEMBER: u16 = 30;
+// September comes before a thermal year.
+const DAYS_OF_SEPTEMBER: u16 = 30;
 
 // Whether a day lies from 1 September Y to 30 September Y+1.
 pub fn is_arrival(year: u16, arrival: u16) -> bool
@@ -13,7 +15,7 @@ pub fn is_arrival(year: u16, arrival: u16) -> bool
 {
     let span = calendar::thermal_year(year);
     match span {
-        Span::Days(first, last) => (first - SEPTEMBER <= arrival) & (arrival <= last),
+        Span::Days(first, last) => (first - DAYS_OF_SEPTEMBER <= arrival) & (arrival <= last),
         Span::OutsideCalendar => false,
     }
 }
@@ -43,5 +45,27 @@ pub fn annual_span(year: u16, arrival: u16) -> Span
     match span {
         Span::Days(first, last) => span_from(next, first, last),
         Span::OutsideCalendar => Span::OutsideCalendar,
+    }
+}
+
+// Whether the days from first to last are a span of a thermal year.
+pub(crate) fn is_span(year: u16, first: u16, last: u16) -> bool
+    ensures { λ v. ⌜ v ≡ spanInYear year first last ⌝ }
+{
+    let span = calendar::thermal_year(year);
+    match span {
+        Span::Days(begin, end) => (begin <= first) & (first <= last) & (last <= end),
+        Span::OutsideCalendar => false,
+    }
+}
+
+// Whether the calendar says that an arrival is in time.
+pub fn is_timely(t: Timeliness) -> bool
+    ensures { λ v. ⌜ v ≡ isTimely t ⌝ }
+{
+    match t {
+        Timeliness::InTime => true,
+        Timeliness::Late => false,
+        Timeliness::OutsideCalendar => false,
     }
 }

@@ -1,20 +1,58 @@
-use mathlib.Core.Path.{sym}
-use Prim.Native.Nat.{_+_, _-_}
-use borrow.Author.Tests.{lt-leb}
-use Rattle.conferral.proofs.BookingLaws.{same-leb}
+use mathlib.Core.Path.{_≡_, sym, ap, _∙_}
+use mathlib.Core.Bool.{true}
+use borrow.Author.Tests.{not-true, not-false}
+use Rattle.register.specs.Registers.{accountAt}
+use Rattle.conferral.specs.Bookings.{covers, withinLimits, isCovered}
+use Rattle.conferral.proofs.RoomLaws.{limits}
 use native.Mathlib.Omega.{arith}
+use borrow.Author.Needs.{needs}
 use Rattle.conferral.proofs.bookings.is_covered.Statement.{statement}
 use Rattle.conferral.proofs.bookings.is_covered.Tie as tie
 use Rattle.conferral.proofs.bookings.is_covered.Reads as reads
 use Rattle.conferral.proofs.bookings.is_covered.Lts as lts
+use Rattle.conferral.proofs.bookings.covers_charge.Reads as covers-charge-reads
+use Rattle.conferral.proofs.bookings.grant_charge.Reads as grant-charge-reads
+use Rattle.conferral.proofs.bookings.is_within_limits.Reads as is-within-limits-reads
+
+of-limits : (c : tie.Else1) → withinLimits (c .before .before .args .t1 .year) (c .before .before .args .g) ≡ true
+of-limits c = sym (c .before .is-within-limits .ensures) ∙ not-false _ (c .if1 .left)
+
+is-within-limits-requires : tie.Need-is-within-limits-requires
+is-within-limits-requires c κs = search needs
 
 returns : tie.Need-returns
-returns c = let a = c .before .before .args in sym (lt-leb (a .a .commitment + a .charge) (a .a .guarantee) (omega arith))
+unfolding isCovered
+returns c = rw (sym (c .before .is-within-limits .ensures) ∙ not-true _ (c .if1 .taken))
+
+cast-a : tie.Need-cast-a
+cast-a c = search needs
+
+mul-a : tie.Need-mul-a
+mul-a c = search needs
+
+element-copy-out-a : tie.Need-element-copy-out-a
+element-copy-out-a c = limits _ _ (of-limits (c .before)) .user
+
+grant-charge-requires : tie.Need-grant-charge-requires
+grant-charge-requires c κs = of-limits (c .before .before)
+
+covers-charge-requires : tie.Need-covers-charge-requires
+covers-charge-requires c κs = search needs
 
 returns-2 : tie.Need-returns-2
+unfolding isCovered
 returns-2 c =
-    let a = c .before .before .before .before .args in
-    same-leb (a .a .commitment) (a .a .guarantee - a .charge) (a .a .commitment + a .charge) (a .a .guarantee) (λ h. omega (arith, h)) (λ h. omega (arith, h))
+    rw (of-limits (c .before .before .before .before)) (c .covers-charge .ensures ∙ ap (covers (accountAt (c .before .before .before .before .before .before .args .t1 .accounts) (c .before .before .before .before .before .before .args .g .user))) (c .before .grant-charge .ensures))
 
 pub is-covered-spec : {M : Type 1} → statement M
-is-covered-spec = tie.close (tie.spec returns returns-2)
+is-covered-spec =
+    tie.close
+    (tie.spec
+    is-within-limits-requires
+    returns
+    cast-a
+    mul-a
+    element-copy-out-a
+    grant-charge-requires
+    covers-charge-requires
+    returns-2)

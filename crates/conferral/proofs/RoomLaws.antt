@@ -1,0 +1,136 @@
+-- Laws of grants that a register has room for.
+-- Assumes nothing.
+use mathlib.Core.Path.{_≡_, refl, sym, ap, _∙_}
+use mathlib.Core.Bool.{Bool, true, false, _&&_}
+use mathlib.Core.List.{List}
+use Prim.Native.Nat.{ℕ, _+_, _≤_, _<_, min}
+use native.Mathlib.Nat.{mul-le-mul}
+use native.Mathlib.Omega.{arith}
+use lib.Dec.{leb}
+use borrow.Author.Tests.{ltb-true, leb-true, leb-false, lt-ltb, le-leb}
+use Rattle.calendar.specs.ThermalYears.{isThermalYear, inThermalYear, thermalFirst, thermalLast}
+use Rattle.calendar.proofs.Ranges.{and-left, and-right, both, is-between}
+use Rattle.register.specs.declared.accounts.Account.{Account}
+use Rattle.register.specs.declared.ledger.Line.{Line}
+use Rattle.register.specs.declared.registers.Register.{Register}
+use Rattle.register.specs.Limits.{pointCount, userCount, lineCount, rowLength, mostAmount}
+use Rattle.register.specs.Registers.{State, state, accountAt, withCommitment, withLines}
+use Rattle.register.specs.Ledger.{withLine}
+use Rattle.register.specs.Amounts.{entryIn, taken}
+use Rattle.register.specs.Charges.{charge, mostWord, chargeWord, charged}
+use Rattle.register.proofs.TestLaws.{every-at}
+use Rattle.register.proofs.CalendarLaws.{year-facts}
+use Rattle.register.proofs.AmountLaws.{entry-in}
+use Rattle.conferral.specs.declared.bookings.Grant.{Grant}
+use Rattle.conferral.specs.Spans.{spanFits}
+use Rattle.conferral.specs.Bookings.{covers, linesLeft, daysOf, chargeOf, committed, withCharge, lineOf, booked, limitTests, withinLimits, isCovered, hasRoom, bookAfter}
+use Rattle.conferral.proofs.SpanLaws.{FitFacts, fit-facts, span-fits}
+
+-- tests that hold of the same numbers are the same
+pub same-leb : (a b c d : ℕ) → (a ≤ b → c ≤ d) → (c ≤ d → a ≤ b) → leb a b ≡ leb c d
+same-leb a b c d f g = go (leb a b) refl
+  where
+    go : (t : Bool) → leb a b ≡ t → t ≡ leb c d
+    go true e = sym (le-leb c d (f (leb-true a b e)))
+    go false e = no (leb c d) refl
+      where
+        no : (u : Bool) → leb c d ≡ u → false ≡ u
+        no true h = absurd (omega (arith, leb-false a b e, g (leb-true c d h)))
+        no false h = refl
+
+-- 64 bits hold the charge of an amount within limits, on the days of a year and at any rate of 32 bits
+pub charge-exact : (amount days rate : ℕ) → amount ≤ mostAmount → days ≤ rowLength → rate ≤ 4294967295 → chargeWord amount days rate ≡ charge amount days rate
+charge-exact amount days rate a d r = omega (arith, mul-le-mul (mul-le-mul a d) r)
+
+-- ---- within limits
+pub record LimitFacts (y : ℕ) (g : Grant) : Type 0 where
+  pub year : isThermalYear y ≡ true
+  pub fit : FitFacts y (g .first) (g .last)
+  pub user : g .user < userCount
+  pub point : g .point < pointCount
+  pub amount : g .amount ≤ mostAmount
+
+module _ (y : ℕ) (g : Grant) where
+  pub limits : withinLimits y g ≡ true → LimitFacts y g
+  unfolding withinLimits
+  limits h =
+      let span = every-at (limitTests y g) 0 h in
+      record {
+        year = and-left (isThermalYear y) (spanFits y (g .first) (g .last)) span;
+        fit = fit-facts y (g .first) (g .last) (and-right (isThermalYear y) (spanFits y (g .first) (g .last)) span);
+        user = ltb-true _ _ (every-at (limitTests y g) 1 h);
+        point = ltb-true _ _ (every-at (limitTests y g) 2 h);
+        amount = leb-true _ _ (every-at (limitTests y g) 3 h);
+      }
+
+  pub within-limits : LimitFacts y g → withinLimits y g ≡ true
+  unfolding withinLimits
+  within-limits w =
+      both _ _
+      (both _ _
+      (both _ _ (both _ _ (w .year) (span-fits y (g .first) (g .last) (w .fit))) (lt-ltb _ _ (w .user)))
+      (lt-ltb _ _ (w .point)))
+      (le-leb _ _ (w .amount))
+
+  -- its days are at most 366
+  pub days-most : LimitFacts y g → daysOf g ≤ rowLength
+  days-most w = omega (arith, w .fit .begins, w .fit .ordered, w .fit .ends, year-facts y (w .year) .most)
+
+  -- its first day lies in the year
+  pub first-in : LimitFacts y g → inThermalYear y (g .first) ≡ true
+  first-in w =
+      both _ _ (w .year)
+      (is-between (thermalFirst y) (thermalLast y) (g .first) (w .fit .begins) (omega (arith, w .fit .ordered, w .fit .ends)))
+
+-- ---- with room
+pub record Room (r : Register) (g : Grant) : Type 0 where
+  pub limits : LimitFacts (r .year) g
+  pub covered : accountAt (r .accounts) (g .user) .commitment + chargeOf r g ≤ accountAt (r .accounts) (g .user) .guarantee
+  pub line : r .lines < lineCount
+
+module _ (r : Register) (g : Grant) where
+  abbrev covered : Bool
+  covered = covers (accountAt (r .accounts) (g .user)) (chargeOf r g)
+
+  -- within limits, covered is what question 11 asks
+  pub covered-is : LimitFacts (r .year) g → isCovered r g ≡ covered
+  unfolding isCovered
+  covered-is w = rw (within-limits (r .year) g w)
+
+  pub room : hasRoom r g ≡ true → Room r g
+  unfolding hasRoom isCovered
+  room h =
+      let c = and-left (isCovered r g) (linesLeft r 1) h in
+      record {
+        limits = limits (r .year) g (and-left (withinLimits (r .year) g) covered c);
+        covered = leb-true _ _ (and-right (withinLimits (r .year) g) covered c);
+        line = omega (arith, leb-true (r .lines + 1) lineCount (and-right (isCovered r g) (linesLeft r 1) h));
+      }
+
+  pub has-room : Room r g → hasRoom r g ≡ true
+  unfolding hasRoom isCovered
+  has-room w =
+      both _ _ (both _ _ (within-limits (r .year) g (w .limits)) (le-leb _ _ (w .covered))) (le-leb (r .lines + 1) lineCount (omega (arith, w .line)))
+
+-- the register and the lists as the code leaves them
+pub booked-as : (r : Register) (f ls : List ℕ) (g : Grant) → hasRoom r g ≡ true → (place : ℕ) (rv : Register) (h m : List ℕ) (l : Line)
+    → place ≡ entryIn (r .year) (g .point) (g .first)
+    → h ≡ taken f place (daysOf g) (g .amount)
+    → l ≡ lineOf g
+    → m ≡ withLine ls (r .lines) l
+    → rv ≡ withLines (withCharge r (g .user) (chargeOf r g)) (r .lines + 1)
+    → state rv h m ≡ bookAfter (state r f ls) g
+unfolding bookAfter booked
+booked-as r f ls g fits place rv h m l at taken-so line-so written-so register-so =
+    let e = at ∙ entry-in (r .year) (g .point) (g .first) (first-in (r .year) g (room r g fits .limits)) in
+    rw (fits, register-so, written-so, line-so, taken-so, e)
+
+pub not-booked : (s : State) (g : Grant) → hasRoom (s .register) g ≡ false → s ≡ bookAfter s g
+unfolding bookAfter
+not-booked s g h = rw h
+
+-- a commitment that stays below a guarantee of 64 bits is raised by just the charge
+pub charged-exact : (a : Account) (c : ℕ) → a .commitment + c ≤ mostWord → charged a c ≡ committed a c
+charged-exact a c h =
+    let e : min (a .commitment + c) mostWord ≡ a .commitment + c = omega arith in
+    ap (withCommitment a) e

@@ -1,0 +1,30 @@
+use mathlib.Core.Path.{sym, _∙_}
+use Rattle.calendar.proofs.SpanLaws.{year-span, no-year}
+use native.Mathlib.Omega.{arith}
+use borrow.Author.Needs.{needs}
+use Rattle.conferral.proofs.spans.is_span.Statement.{statement}
+use Rattle.conferral.proofs.spans.is_span.Tie as tie
+use Rattle.conferral.proofs.spans.is_span.Reads as reads
+use Rattle.conferral.proofs.spans.is_span.Lts as lts
+use Rattle.calendar.proofs.thermal_year.Reads as thermal-year-reads
+
+thermal-year-requires : tie.Need-thermal-year-requires
+thermal-year-requires c κs = search needs
+
+enum-known-span : tie.Need-enum-known-span
+enum-known-span c = search needs
+
+enum-told : tie.Need-enum-told
+enum-told c = search needs
+
+returns : tie.Need-returns
+returns c =
+    let s = year-span _ _ _ (sym (c .before .before .before .thermal-year .ensures) ∙ c .before .span .given .1) in
+    rw (s .year, s .begins, s .ends)
+
+returns-2 : tie.Need-returns-2
+returns-2 c = rw (no-year _ (sym (c .before .before .thermal-year .ensures) ∙ c .enum-told .given .1))
+
+pub is-span-spec : {M : Type 1} → statement M
+is-span-spec =
+    tie.close (tie.spec thermal-year-requires enum-known-span enum-told returns returns-2)
