@@ -159,7 +159,7 @@ fn a_request_is_recorded_and_printed() {
         (Product::Day(8_700), 3, 8_700, "day 8700"),
     ] {
         let step = request(product);
-        assert_eq!(words(step), [82, 31, kind, number, 8_699, 600, 1, 5]);
+        assert_eq!(words(step), [82, 31, kind, number, 0, 8_699, 600, 1, 5]);
         let printed = format!("request 5 31 {text} 8699 4294967896");
         assert_eq!(step.to_string(), printed);
     }

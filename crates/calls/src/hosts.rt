@@ -102,8 +102,8 @@ fn product_of(s: Step) -> Product {
     let kind = s.kind;
     match kind {
         1 => Product::Annual,
-        2 => Product::Month(byte(s.day)),
-        _ => Product::Day(half(s.day)),
+        2 => Product::Month(byte(s.period)),
+        _ => Product::Day(half(s.period)),
     }
 }
 
@@ -112,7 +112,7 @@ fn request_of(s: Step) -> Request {
         user: byte(s.user),
         point: byte(s.index),
         product: product_of(s),
-        arrival: half(s.rate),
+        arrival: half(s.arrival),
         amount: s.value,
     }
 }
@@ -122,7 +122,7 @@ fn run_call(h: Host, s: Step, free: &mut [u32], ledger: &mut [u32]) -> Host {
     let r = h.register;
     let letter = s.letter;
     match letter {
-        b'F' => after_call(h, register::fresh_register(half(s.day), free, ledger)),
+        b'F' => after_call(h, register::fresh_register(half(s.period), free, ledger)),
         b'P' => after_call(
             h,
             filing::open_point(
@@ -139,14 +139,14 @@ fn run_call(h: Host, s: Step, free: &mut [u32], ledger: &mut [u32]) -> Host {
             h,
             filing::place_guarantee(r, &free[..], &ledger[..], byte(s.index), s.value),
         ),
-        b'Y' => after_call(h, filing::turn_year(r, free, ledger, half(s.day))),
+        b'Y' => after_call(h, filing::turn_year(r, free, ledger, half(s.period))),
         b'R' => after_request(
             h,
             requests::request_capacity(r, free, ledger, request_of(s)),
         ),
         _ => after_report(
             h,
-            register::report_free(r, &free[..], &ledger[..], byte(s.index), half(s.day)),
+            register::report_free(r, &free[..], &ledger[..], byte(s.index), half(s.period)),
         ),
     }
 }
