@@ -52,49 +52,44 @@ pub fn start() -> Host {
     }
 }
 
-fn with_register(h: Host, r: Register) -> Host {
+// The host with the register after a call, and the numbers of the answer.
+fn answered(h: Host, r: Register, number: u8, amount: u32) -> Host {
     Host {
         register: r,
         table: h.table,
         ledger: h.ledger,
-        number: h.number,
-        amount: h.amount,
+        number,
+        amount,
     }
+}
+
+// The host with another register, its last answer kept.
+fn with_register(h: Host, r: Register) -> Host {
+    answered(h, r, h.number, h.amount)
 }
 
 fn after_call(h: Host, f: Filed) -> Host {
-    let r = f.register;
     let answer = f.answer;
-    Host {
-        register: r,
-        table: h.table,
-        ledger: h.ledger,
-        number: register::verdict_number(answer),
-        amount: 0,
-    }
+    answered(h, f.register, register::verdict_number(answer), 0)
 }
 
 fn after_report(h: Host, answer: Report) -> Host {
-    let r = h.register;
-    Host {
-        register: r,
-        table: h.table,
-        ledger: h.ledger,
-        number: register::report_number(answer),
-        amount: register::report_amount(answer),
-    }
+    answered(
+        h,
+        h.register,
+        register::report_number(answer),
+        register::report_amount(answer),
+    )
 }
 
 fn after_request(h: Host, c: Conferred) -> Host {
-    let r = c.register;
     let answer = c.answer;
-    Host {
-        register: r,
-        table: h.table,
-        ledger: h.ledger,
-        number: requests::conferral_number(answer),
-        amount: requests::conferral_amount(answer),
-    }
+    answered(
+        h,
+        c.register,
+        requests::conferral_number(answer),
+        requests::conferral_amount(answer),
+    )
 }
 
 // What is requested. The script has no kind but 1, 2 and 3.
