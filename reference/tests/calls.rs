@@ -90,7 +90,6 @@ fn the_sequences_have_every_answer_often() {
         (b'Q', 8, 20),
     ] {
         let found = count(letter, number);
-        println!("{} {number}: {found}", letter as char);
         assert!(
             found >= at_least,
             "{}: {number}, {found} times",
@@ -128,7 +127,6 @@ fn the_sequences_grant_and_cut_often() {
             let found = requests
                 .filter(|&(asked, answer)| test(asked, answer))
                 .count();
-            println!("kind {kind}, {name}: {found}");
             assert!(found >= 20, "kind {kind}, {name}: {found} times");
         }
     }
