@@ -18,7 +18,7 @@ use crate::register::{
 
 /// The working day by which annual and monthly requests arrive. Document 01,
 /// question 9: the 11th.
-const DEADLINE: usize = 11;
+pub const REQUEST_DEADLINE: usize = 11;
 
 /// The months of a thermal year.
 const MONTHS: RangeInclusive<u8> = 1..=12;
@@ -94,9 +94,9 @@ impl Request {
         let arrival = u32::from(self.arrival);
         let deadline = match self.product {
             Product::Annual => {
-                Date::from_day_number(arrival).and_then(|date| own_deadline(date, DEADLINE))
+                Date::from_day_number(arrival).and_then(|date| own_deadline(date, REQUEST_DEADLINE))
             }
-            Product::Month(month) => preceding_deadline(year, month, DEADLINE),
+            Product::Month(month) => preceding_deadline(year, month, REQUEST_DEADLINE),
             Product::Day(day) => return self.arrival < day,
         };
         deadline.is_some_and(|last| arrival <= last.day_number())

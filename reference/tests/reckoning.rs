@@ -22,6 +22,7 @@ struct Point {
 struct Grant {
     user: u8,
     point: u8,
+    kind: u8,
     days: Vec<u32>,
     amount: u64,
     charge: u64,
@@ -164,6 +165,11 @@ impl Reckoning {
                 self.grants.push(Grant {
                     user: request.user,
                     point: request.point,
+                    kind: match request.product {
+                        Product::Annual => 1,
+                        Product::Month(_) => 2,
+                        Product::Day(_) => 3,
+                    },
                     charge: granted * days.len() as u64 * rate,
                     days,
                     amount: granted,
@@ -174,7 +180,24 @@ impl Reckoning {
         }
     }
 
-    /// What a register holds at the end of a sequence.
+    /// The ledger has a line for each grant, in their order: user, point, kind,
+    /// first day and the amount granted.
+    fn assert_lines(&self, host: &Host) {
+        assert_eq!(host.get(Field::Lines), self.grants.len() as u64);
+        for (index, grant) in (0..).zip(&self.grants) {
+            let line = [0, 1, 2, 3, 4].map(|number| host.get(Field::Ledger(5 * index + number)));
+            let granted = [
+                grant.user.into(),
+                grant.point.into(),
+                grant.kind.into(),
+                grant.days[0].into(),
+                grant.amount,
+            ];
+            assert_eq!(line, granted, "line {index}");
+        }
+    }
+
+    /// What a register holds at the end of a sequence, but for its lines.
     fn assert_held(&self, host: &Host) {
         for &point in self.points.keys() {
             for (place, day) in (u16::from(point) * 366..).zip(self.days_of_year()) {
@@ -186,7 +209,6 @@ impl Reckoning {
             assert!(commitment <= guarantee);
             assert_eq!(host.get(Field::Commitment(user)), commitment);
         }
-        assert_eq!(host.get(Field::Lines), self.grants.len() as u64);
     }
 }
 
@@ -222,8 +244,10 @@ fn the_sequences_of_calls_are_answered_as_reckoned() {
             match answer {
                 Answer::Number(0) => reckoning.count(step, 0),
                 Answer::Amount(0, amount) => reckoning.count(step, amount.into()),
-                _ => {}
+                _ => continue,
             }
+            // A turn empties the ledger, so the end of a sequence would be too late.
+            reckoning.assert_lines(&host);
         }
         if has_calls_only {
             reckoning.assert_held(&host);

@@ -52,49 +52,44 @@ pub fn start() -> Host {
     }
 }
 
-fn with_register(h: Host, r: Register) -> Host {
+// The host with the register after a call, and the numbers of the answer.
+fn answered(h: Host, r: Register, number: u8, amount: u32) -> Host {
     Host {
         register: r,
         table: h.table,
         ledger: h.ledger,
-        number: h.number,
-        amount: h.amount,
+        number,
+        amount,
     }
+}
+
+// The host with another register, its last answer kept.
+fn with_register(h: Host, r: Register) -> Host {
+    answered(h, r, h.number, h.amount)
 }
 
 fn after_call(h: Host, f: Filed) -> Host {
-    let r = f.register;
     let answer = f.answer;
-    Host {
-        register: r,
-        table: h.table,
-        ledger: h.ledger,
-        number: register::verdict_number(answer),
-        amount: 0,
-    }
+    answered(h, f.register, register::verdict_number(answer), 0)
 }
 
 fn after_report(h: Host, answer: Report) -> Host {
-    let r = h.register;
-    Host {
-        register: r,
-        table: h.table,
-        ledger: h.ledger,
-        number: register::report_number(answer),
-        amount: register::report_amount(answer),
-    }
+    answered(
+        h,
+        h.register,
+        register::report_number(answer),
+        register::report_amount(answer),
+    )
 }
 
 fn after_request(h: Host, c: Conferred) -> Host {
-    let r = c.register;
     let answer = c.answer;
-    Host {
-        register: r,
-        table: h.table,
-        ledger: h.ledger,
-        number: requests::conferral_number(answer),
-        amount: requests::conferral_amount(answer),
-    }
+    answered(
+        h,
+        c.register,
+        requests::conferral_number(answer),
+        requests::conferral_amount(answer),
+    )
 }
 
 // What is requested. The script has no kind but 1, 2 and 3.
@@ -102,8 +97,8 @@ fn product_of(s: Step) -> Product {
     let kind = s.kind;
     match kind {
         1 => Product::Annual,
-        2 => Product::Month(byte(s.day)),
-        _ => Product::Day(half(s.day)),
+        2 => Product::Month(byte(s.period)),
+        _ => Product::Day(half(s.period)),
     }
 }
 
@@ -112,7 +107,7 @@ fn request_of(s: Step) -> Request {
         user: byte(s.user),
         point: byte(s.index),
         product: product_of(s),
-        arrival: half(s.rate),
+        arrival: half(s.arrival),
         amount: s.value,
     }
 }
@@ -122,7 +117,7 @@ fn run_call(h: Host, s: Step, free: &mut [u32], ledger: &mut [u32]) -> Host {
     let r = h.register;
     let letter = s.letter;
     match letter {
-        b'F' => after_call(h, register::fresh_register(half(s.day), free, ledger)),
+        b'F' => after_call(h, register::fresh_register(half(s.period), free, ledger)),
         b'P' => after_call(
             h,
             filing::open_point(
@@ -139,14 +134,14 @@ fn run_call(h: Host, s: Step, free: &mut [u32], ledger: &mut [u32]) -> Host {
             h,
             filing::place_guarantee(r, &free[..], &ledger[..], byte(s.index), s.value),
         ),
-        b'Y' => after_call(h, filing::turn_year(r, free, ledger, half(s.day))),
+        b'Y' => after_call(h, filing::turn_year(r, free, ledger, half(s.period))),
         b'R' => after_request(
             h,
             requests::request_capacity(r, free, ledger, request_of(s)),
         ),
         _ => after_report(
             h,
-            register::report_free(r, &free[..], &ledger[..], byte(s.index), half(s.day)),
+            register::report_free(r, &free[..], &ledger[..], byte(s.index), half(s.period)),
         ),
     }
 }

@@ -29,11 +29,11 @@ fn print_product(s: Step) {
         1 => print_text(b" annual"),
         2 => {
             print_text(b" month");
-            print_field(s.day as u64);
+            print_field(s.period as u64);
         }
         _ => {
             print_text(b" day");
-            print_field(s.day as u64);
+            print_field(s.period as u64);
         }
     }
 }
@@ -43,7 +43,7 @@ fn print_request(s: Step) {
     print_field(s.user as u64);
     print_field(s.index as u64);
     print_product(s);
-    print_field(s.rate as u64);
+    print_field(s.arrival as u64);
     print_field(s.value);
 }
 
@@ -52,7 +52,7 @@ fn print_call(s: Step) {
     match letter {
         b'F' => {
             print_text(b" fresh");
-            print_field(s.day as u64);
+            print_field(s.period as u64);
         }
         b'P' => print_opening(s),
         b'G' => {
@@ -62,13 +62,13 @@ fn print_call(s: Step) {
         }
         b'Y' => {
             print_text(b" turn");
-            print_field(s.day as u64);
+            print_field(s.period as u64);
         }
         b'R' => print_request(s),
         _ => {
             print_text(b" report");
             print_field(s.index as u64);
-            print_field(s.day as u64);
+            print_field(s.period as u64);
         }
     }
 }

@@ -2,9 +2,9 @@
 // are written by another implementation (reference/), which shares no code with the register.
 //
 // A step is a call, or writes one number of the register, of the lists that are lent or of their lengths, or copies a line: what a
-// faulty host could do. Its record has eight words of 32 bits, little-endian: letter; point, the user of a guarantee or the place in
-// a list; kind, of a point or of what is requested (1 annual, 2 month, 3 day); year, gas-day or month of the year; rate, or the
-// arrival of a request; total, guarantee, amount, number written or count of lines, low half first; and the user of a request.
+// faulty host could do. Its record has nine words of 32 bits, little-endian: letter; point, the user of a guarantee or the place in
+// a list; kind, of a point or of what is requested (1 annual, 2 month, 3 day); year, gas-day or month of the year; rate; the arrival
+// of a request; total, guarantee, amount, number written or count of lines, low half first; and the user of a request.
 //
 // A line has the position of the step from 1, the step, the number of its answer after `->`, for a report the free amount and for a
 // request the amount granted, and a digest of the register and of both lists, the numbers that are never lent included.
@@ -24,8 +24,8 @@ use libc::STDIN_FILENO;
 const MOST_STEPS: u64 = 100_000;
 
 // Whether there is a whole record left.
-fn read_record(record: &mut [u8; 32]) -> bool {
-    io::read_full(STDIN_FILENO, record) == 32
+fn read_record(record: &mut [u8; 36]) -> bool {
+    io::read_full(STDIN_FILENO, record) == 36
 }
 
 fn run_and_print(
@@ -43,7 +43,7 @@ fn run_and_print(
 fn main() {
     let mut free = [UNUSED; TABLE_SPACE];
     let mut ledger = [UNUSED; LEDGER_SPACE];
-    let mut record = [0u8; 32];
+    let mut record = [0u8; 36];
     let mut host = hosts::start();
     let mut position: u64 = 1;
     while position <= MOST_STEPS && read_record(&mut record) {

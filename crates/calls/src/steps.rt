@@ -1,13 +1,13 @@
 // A step of the script, and its record.
 
-// What a record holds, whether the step uses it or not. The names are those of most steps; a request has its month or gas-day in
-// `day` and its arrival in `rate`.
+// The words of a record in the order in which main.rt lists them, whether the step uses them or not.
 pub struct Step {
     pub letter: u8,
     pub index: u32,
     pub kind: u32,
-    pub day: u32,
+    pub period: u32,
     pub rate: u32,
+    pub arrival: u32,
     pub value: u64,
     pub user: u32,
 }
@@ -20,20 +20,22 @@ fn joined(low: u32, high: u32) -> u64 {
     (low as u64) + 4_294_967_296 * (high as u64)
 }
 
-pub fn step_of(r: &[u8; 32]) -> Step {
+pub fn step_of(r: &[u8; 36]) -> Step {
     let index = word(r[4], r[5], r[6], r[7]);
     let kind = word(r[8], r[9], r[10], r[11]);
-    let day = word(r[12], r[13], r[14], r[15]);
+    let period = word(r[12], r[13], r[14], r[15]);
     let rate = word(r[16], r[17], r[18], r[19]);
-    let low = word(r[20], r[21], r[22], r[23]);
-    let high = word(r[24], r[25], r[26], r[27]);
-    let user = word(r[28], r[29], r[30], r[31]);
+    let arrival = word(r[20], r[21], r[22], r[23]);
+    let low = word(r[24], r[25], r[26], r[27]);
+    let high = word(r[28], r[29], r[30], r[31]);
+    let user = word(r[32], r[33], r[34], r[35]);
     Step {
         letter: r[0],
         index,
         kind,
-        day,
+        period,
         rate,
+        arrival,
         value: joined(low, high),
         user,
     }

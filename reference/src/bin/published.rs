@@ -16,12 +16,10 @@ use reference::calendar::{
     easter, is_working_day, own_deadline, preceding_deadline, thermal_month, thermal_year,
     working_days, Date, THERMAL_YEARS, YEARS,
 };
+use reference::request::REQUEST_DEADLINE;
 
 /// The working days whose dates are printed, counted from 1.
 const PRINTED_WORKING_DAYS: [usize; 4] = [10, 11, 14, 16];
-
-/// The working day that is the deadline of annual and of monthly requests.
-const REQUEST_DEADLINE: usize = 11;
 
 fn main() -> io::Result<()> {
     let mut out = BufWriter::new(io::stdout().lock());

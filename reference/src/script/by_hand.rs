@@ -1,5 +1,6 @@
-//! Steps written by hand. Each number and each reported amount stands here as
-//! document 01 gives it; none is computed.
+//! Steps written by hand. The number and the amount of each answer stand here as
+//! document 01 gives them; none is computed. Of the fields of the steps one is:
+//! the arrival of the request in `damaged`, the day before its gas-day.
 //!
 //! Days: thermal year 2023 runs from day 8,674 to 9,039 and has 366 days, 2022
 //! from 8,309 to 8,673 and 2024 from 9,040 to 9,404, each with 365.

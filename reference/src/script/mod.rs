@@ -5,16 +5,17 @@
 //! The script has two parts: steps written by hand, with the answers that
 //! document 01 gives them, and random sequences.
 //!
-//! In the script a step is a record of eight words of 32 bits, little-endian:
+//! In the script a step is a record of nine words of 32 bits, little-endian:
 //!
 //! - 0: the letter of the step;
 //! - 1: point, the user of a guarantee or the place in a list;
 //! - 2: kind, of a point or of what is requested (1 annual, 2 month, 3 day);
 //! - 3: year, gas-day or month of the year;
-//! - 4: rate, or the arrival of a request;
-//! - 5, 6: total, guarantee, amount, number written or count of lines, low half
+//! - 4: rate;
+//! - 5: the arrival of a request;
+//! - 6, 7: total, guarantee, amount, number written or count of lines, low half
 //!   first;
-//! - 7: the user of a request.
+//! - 8: the user of a request.
 //!
 //! A word that a step does not use is 0.
 //!
@@ -115,21 +116,25 @@ pub enum Step {
     },
 }
 
-/// The words of a step's record, by what they hold most often.
+/// The record of a step: nine words of 32 bits.
+pub type Record = [u8; 36];
+
+/// What the words of a record hold, in their order.
 #[derive(Debug, Default)]
 struct Words {
     letter: u8,
     index: u16,
     kind: u8,
-    day: u16,
+    period: u16,
     rate: u32,
+    arrival: u16,
     value: u64,
     user: u8,
 }
 
 impl Words {
     fn of_request(request: Request) -> Words {
-        let (kind, day) = match request.product {
+        let (kind, period) = match request.product {
             Product::Annual => (1, 0),
             Product::Month(month) => (2, month.into()),
             Product::Day(day) => (3, day),
@@ -138,22 +143,24 @@ impl Words {
             letter: b'R',
             index: request.point.into(),
             kind,
-            day,
-            rate: request.arrival.into(),
+            period,
+            arrival: request.arrival,
             value: request.amount,
             user: request.user,
+            ..Words::default()
         }
     }
 
-    fn record(&self) -> [u8; 32] {
-        let mut record = [0; 32];
+    fn record(&self) -> Record {
+        let mut record = [0; 36];
         record[0] = self.letter;
         record[4..6].copy_from_slice(&self.index.to_le_bytes());
         record[8] = self.kind;
-        record[12..14].copy_from_slice(&self.day.to_le_bytes());
+        record[12..14].copy_from_slice(&self.period.to_le_bytes());
         record[16..20].copy_from_slice(&self.rate.to_le_bytes());
-        record[20..28].copy_from_slice(&self.value.to_le_bytes());
-        record[28] = self.user;
+        record[20..22].copy_from_slice(&self.arrival.to_le_bytes());
+        record[24..32].copy_from_slice(&self.value.to_le_bytes());
+        record[32] = self.user;
         record
     }
 }
@@ -165,7 +172,7 @@ impl Step {
     }
 
     /// The record of the step.
-    pub fn record(self) -> [u8; 32] {
+    pub fn record(self) -> Record {
         self.words().record()
     }
 
@@ -174,7 +181,7 @@ impl Step {
         match self {
             Step::Fresh { year } => Words {
                 letter: b'F',
-                day: year,
+                period: year,
                 ..none
             },
             Step::Open {
@@ -198,14 +205,14 @@ impl Step {
             },
             Step::Turn { year } => Words {
                 letter: b'Y',
-                day: year,
+                period: year,
                 ..none
             },
             Step::Request(request) => Words::of_request(request),
             Step::Report { point, day } => Words {
                 letter: b'Q',
                 index: point.into(),
-                day,
+                period: day,
                 ..none
             },
             Step::Set(field, value) => {

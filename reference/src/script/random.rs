@@ -12,10 +12,16 @@ use super::{Answer, Field, Host, Step};
 use crate::calendar::thermal_year;
 use crate::request::Span;
 
-/// How many sequences there are.
+/// How many sequences there are: enough that each answer is found as often as
+/// `tests/calls.rs` asks for, and hardly more, because the script and its answers
+/// are stored. 120 sequences would grant fewer than the 800 requests asked for.
 const SEQUENCES: usize = 130;
 
-/// About how many steps a sequence has.
+/// How many steps a sequence has at least; repairs may follow. About seven of
+/// them make the register, points and users. As many steps in all would do less in
+/// sequences of another length: in those of 20, one request would meet a full
+/// ledger and less than half as many would find nothing free; in those of 98,
+/// fewer would be granted, in half as many years.
 const STEPS: usize = 49;
 
 const SEED: u64 = 20_231_001;

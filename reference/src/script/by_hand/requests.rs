@@ -98,66 +98,67 @@ fn proved_cases(c: &mut Cases) {
     c.place("all of it is committed", 5, 334_999, 6);
 }
 
-/// Annual requests of 1 at rate 1: the arrival on the deadline, where the span
-/// begins and its days, which are also the charge. Users 1 to 12 ask in turn, at
-/// a direct point.
+/// Annual requests of 1 at rate 1, so that the days of the span are the charge:
+/// a guarantee that is one too little and one that is enough, the arrival on the
+/// deadline and the day after, where the span begins and what is free there then.
+/// Users 1 to 12 ask in turn, at a direct point.
 fn annual_deadlines(c: &mut Cases) {
     c.fresh("annual deadlines", 2023, 0);
     c.open("a direct point", (0, 1, 1000, 1), 0);
-    for (user, deadline, first, days) in [
-        (1, 8658, 8674, 366),
-        (2, 8689, 8705, 335),
-        (3, 8720, 8735, 305),
-        (4, 8752, 8766, 274),
-        (5, 8781, 8797, 243),
-        (6, 8811, 8826, 214),
-        (7, 8840, 8857, 183),
-        (8, 8872, 8887, 153),
-        (9, 8902, 8918, 122),
-        (10, 8934, 8948, 92),
-        (11, 8962, 8979, 61),
-        (12, 8994, 9010, 30),
+    for (user, [too_little, enough], [deadline, late], first, free) in [
+        (1, [365, 366], [8658, 8659], 8674, 999),
+        (2, [334, 335], [8689, 8690], 8705, 998),
+        (3, [304, 305], [8720, 8721], 8735, 997),
+        (4, [273, 274], [8752, 8753], 8766, 996),
+        (5, [242, 243], [8781, 8782], 8797, 995),
+        (6, [213, 214], [8811, 8812], 8826, 994),
+        (7, [182, 183], [8840, 8841], 8857, 993),
+        (8, [152, 153], [8872, 8873], 8887, 992),
+        (9, [121, 122], [8902, 8903], 8918, 991),
+        (10, [91, 92], [8934, 8935], 8948, 990),
+        (11, [60, 61], [8962, 8963], 8979, 989),
+        (12, [29, 30], [8994, 8995], 9010, 988),
     ] {
-        c.place("one too little", user, days - 1, 0);
+        c.place("one too little", user, too_little, 0);
         c.refused("one too little", annual(user, 0, deadline, 1), 11);
-        c.place("enough", user, days, 0);
-        c.refused("the day after", annual(user, 0, deadline + 1, 1), 9);
+        c.place("enough", user, enough, 0);
+        c.refused("the day after", annual(user, 0, late, 1), 9);
         c.granted("the deadline is in time", annual(user, 0, deadline, 1), 1);
-        c.place("all is committed", user, days - 1, 6);
-        c.report("where it begins", 0, first, 1000 - u32::from(user));
+        c.place("all is committed", user, too_little, 6);
+        c.report("where it begins", 0, first, free);
     }
     c.report("October has one of them", 0, 8704, 999);
     c.report("August has eleven", 0, 9009, 989);
     c.report("the last day has all", 0, 9039, 988);
 }
 
-/// Monthly requests of 1 at rate 1: the 11th working day of the month before,
-/// the month's first day and its days, which are also the charge.
+/// Monthly requests of 1 at rate 1, so that the days of the month are the charge:
+/// the month, the user, a guarantee that is one too little and one that is
+/// enough, the 11th working day of the month before and the day after, and the
+/// month's first day.
 fn monthly_deadlines(c: &mut Cases) {
     c.fresh("monthly deadlines", 2023, 0);
     c.open("a thermoelectric point", (31, 2, 1000, 1), 0);
-    for (m, deadline, first, days) in [
-        (1, 8658, 8674, 31),
-        (2, 8689, 8705, 30),
-        (3, 8720, 8735, 31),
-        (4, 8752, 8766, 31),
-        (5, 8781, 8797, 29),
-        (6, 8811, 8826, 31),
-        (7, 8840, 8857, 30),
-        (8, 8872, 8887, 31),
-        (9, 8902, 8918, 30),
-        (10, 8934, 8948, 31),
-        (11, 8962, 8979, 31),
-        (12, 8994, 9010, 30),
+    for (m, user, [too_little, enough], [deadline, late], first) in [
+        (1, 12, [30, 31], [8658, 8659], 8674),
+        (2, 11, [29, 30], [8689, 8690], 8705),
+        (3, 10, [30, 31], [8720, 8721], 8735),
+        (4, 9, [30, 31], [8752, 8753], 8766),
+        (5, 8, [28, 29], [8781, 8782], 8797),
+        (6, 7, [30, 31], [8811, 8812], 8826),
+        (7, 6, [29, 30], [8840, 8841], 8857),
+        (8, 5, [30, 31], [8872, 8873], 8887),
+        (9, 4, [29, 30], [8902, 8903], 8918),
+        (10, 3, [30, 31], [8934, 8935], 8948),
+        (11, 2, [30, 31], [8962, 8963], 8979),
+        (12, 1, [29, 30], [8994, 8995], 9010),
     ] {
-        // Users 12 to 1.
-        let user = 13 - m;
-        c.place("one too little", user, days - 1, 0);
+        c.place("one too little", user, too_little, 0);
         c.refused("one too little", month(user, 31, m, deadline, 1), 11);
-        c.place("enough", user, days, 0);
-        c.refused("the day after", month(user, 31, m, deadline + 1, 1), 9);
+        c.place("enough", user, enough, 0);
+        c.refused("the day after", month(user, 31, m, late, 1), 9);
         c.granted("in time", month(user, 31, m, deadline, 1), 1);
-        c.place("all is committed", user, days - 1, 6);
+        c.place("all is committed", user, too_little, 6);
         c.report("its first day", 31, first, 999);
     }
     c.report("the last of October", 31, 8704, 999);
@@ -180,15 +181,15 @@ fn monthly_deadlines(c: &mut Cases) {
 
 fn daily_deadlines(c: &mut Cases) {
     start(c, 2023, 1000, 1, 1_000_000);
-    for (why, gas_day) in [
-        ("1 October", 8674),
-        ("2 October", 8675),
-        ("29 February", 8825),
-        ("the last day but one", 9038),
-        ("the last day", 9039),
+    for (why, gas_day, day_before) in [
+        ("1 October", 8674, 8673),
+        ("2 October", 8675, 8674),
+        ("29 February", 8825, 8824),
+        ("the last day but one", 9038, 9037),
+        ("the last day", 9039, 9038),
     ] {
         c.refused(why, day(5, 0, gas_day, gas_day, 9), 9);
-        c.granted(why, day(5, 0, gas_day, gas_day - 1, 9), 9);
+        c.granted(why, day(5, 0, gas_day, day_before, 9), 9);
         c.report(why, 0, gas_day, 991);
         c.granted(why, day(5, 0, gas_day, 8644, 1), 1);
         c.report(why, 0, gas_day, 990);

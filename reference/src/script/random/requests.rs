@@ -3,11 +3,8 @@
 use super::{narrow, Sequence, MOST_AMOUNT, MOST_GUARANTEE};
 use crate::calendar::{own_deadline, preceding_deadline, thermal_month, Date};
 use crate::register::{DAYS_IN_ROW, DIRECT};
-use crate::request::{Product, Request};
+use crate::request::{Product, Request, REQUEST_DEADLINE};
 use crate::script::{Field, Step};
-
-/// The working day of the deadlines.
-const DEADLINE: usize = 11;
 
 fn number_of(date: Option<Date>) -> u16 {
     let number = date.expect("a date of the calendar").day_number();
@@ -127,10 +124,13 @@ impl Sequence {
                 let month = self.numbers.pick(&[some, some, self.busy_month - 1]);
                 let first = thermal_month(year, month).map_or(first.into(), |span| span.0);
                 let date = Date::from_day_number(first);
-                let deadline = date.and_then(|date| own_deadline(date, DEADLINE));
+                let deadline = date.and_then(|date| own_deadline(date, REQUEST_DEADLINE));
                 (number_of(date), number_of(deadline))
             }
-            Product::Month(month) => (first, number_of(preceding_deadline(year, month, DEADLINE))),
+            Product::Month(month) => (
+                first,
+                number_of(preceding_deadline(year, month, REQUEST_DEADLINE)),
+            ),
             Product::Day(day) => (first, day - 1),
         }
     }
@@ -198,9 +198,9 @@ impl Sequence {
         let arrival = u32::from(request.arrival);
         let latest = match request.product {
             Product::Annual => {
-                Date::from_day_number(arrival).and_then(|date| own_deadline(date, DEADLINE))
+                Date::from_day_number(arrival).and_then(|date| own_deadline(date, REQUEST_DEADLINE))
             }
-            Product::Month(month) => preceding_deadline(self.year(), month, DEADLINE),
+            Product::Month(month) => preceding_deadline(self.year(), month, REQUEST_DEADLINE),
             Product::Day(day) => Date::from_day_number(u32::from(day).saturating_sub(1)),
         };
         let latest = latest.map_or(request.arrival, |date| number_of(Some(date)));
