@@ -2,11 +2,13 @@
 -- Assumes nothing.
 use Prim.Native.Nat.{ℕ}
 use mathlib.Core.Bool.{Bool, true, not}
-use lib.Dec.{ltb, eqb}
+use lib.Dec.{ltb}
 use Rattle.calendar.specs.Days.{between}
 use Rattle.calendar.specs.ThermalYears.{thermalLast, thermalMonthFirst, thermalMonthLast}
 use Rattle.calendar.specs.Deadlines.{nextFirst, inTimeOwn, inTimePreceding}
 use Rattle.register.specs.declared.points.Point.{Point}
+use Rattle.register.specs.Order.{isDirect}
+use Rattle.conferral.specs.Spans.{spanOk}
 use Rattle.requests.specs.declared.products.Product.{Product}
 use Rattle.requests.specs.declared.products.Product.the-variants.{Annual, Month, Day}
 
@@ -35,17 +37,22 @@ monthOk (Month m) = between 1 12 m
 monthOk (Day d) = true
 
 -- question 7: "Is the kind offered? Direct points take annual requests only."
-abbrev pub isDirect : Point → Bool
-isDirect p = eqb (p .kind) 1
-
 abbrev pub isOffered : Point → Product → Bool
 isOffered p Annual = true
 isOffered p (Month m) = not (isDirect p)
 isOffered p (Day d) = not (isDirect p)
 
+-- question 8: "Does arrival lie from 1 September Y to 30 September Y+1, and the span in the year with a day left?"
+abbrev pub isInYear : ℕ → ℕ → Product → Bool
+isInYear y a k = spanOk y a (firstOf y a k) (lastOf y a k)
+
+-- "the 11th working day"
+abbrev pub deadline : ℕ
+deadline = 11
+
 -- question 9: "Annual: by the 11th working day of the arrival month. Monthly: by the 11th working day of the preceding month. Daily:
 -- before the gas-day."
 abbrev pub isInTime : ℕ → ℕ → Product → Bool
-isInTime y a Annual = inTimeOwn a 11
-isInTime y a (Month m) = inTimePreceding a y m 11
+isInTime y a Annual = inTimeOwn a deadline
+isInTime y a (Month m) = inTimePreceding a y m deadline
 isInTime y a (Day d) = ltb a d

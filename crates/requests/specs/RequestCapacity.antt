@@ -6,21 +6,22 @@ use mathlib.Core.List.{List, [], _∷_}
 use lib.Dec.{ltb}
 use lib.ListN.{getD}
 use Rattle.calendar.specs.Days.{between}
+use Rattle.register.specs.declared.points.Point.{Point}
+use Rattle.register.specs.declared.accounts.Account.{Account}
 use Rattle.register.specs.declared.registers.Register.{Register}
 use Rattle.register.specs.Limits.{pointCount, userCount, mostAmount}
 use Rattle.register.specs.Tests.{allBelow}
 use Rattle.register.specs.Ranges.{leastOf}
 use Rattle.register.specs.Registers.{State, pointAt, accountAt}
 use Rattle.register.specs.Amounts.{spanDays, entryOf}
-use Rattle.register.specs.Charges.{charge}
 use Rattle.register.specs.Order.{isOpen, isOnFile, inOrder}
 use Rattle.register.specs.Answers.{numberOfRefusal, Question, _asks_, numberOf, leaves}
-use Rattle.conferral.specs.Spans.{spanOk}
-use Rattle.conferral.specs.Bookings.{covers, linesLeft, Grant, booked}
+use Rattle.conferral.specs.declared.bookings.Grant.{Grant}
+use Rattle.conferral.specs.Bookings.{covers, linesLeft, chargeOf, booked}
 use Rattle.requests.specs.declared.products.Request.{Request}
 use Rattle.requests.specs.declared.answers.Conferral.{Conferral}
 use Rattle.requests.specs.declared.answers.Conferral.the-variants.{Granted, Refused}
-use Rattle.requests.specs.Products.{kindOf, firstOf, lastOf, monthOk, isOffered, isInTime}
+use Rattle.requests.specs.Products.{kindOf, firstOf, lastOf, monthOk, isOffered, isInYear, isInTime}
 
 -- the number and the amount of an answer: where the answer is no, "grant [..] 0"
 abbrev pub numberOfConferral : Conferral → ℕ
@@ -49,9 +50,31 @@ daysAsked r q = spanDays (spanFirst r q) (spanLast r q)
 abbrev pub spanPlace : Register → Request → ℕ
 spanPlace r q = entryOf (r .year) (q .point) (spanFirst r q)
 
+-- the point and the account that it names
+abbrev pub pointOf : Register → Request → Point
+pointOf r q = pointAt (r .points) (q .point)
+
+abbrev pub accountOf : Register → Request → Account
+accountOf r q = accountAt (r .accounts) (q .user)
+
+-- the grant of an amount to the user on each day of the span
+abbrev pub grantFrom : Request → ℕ → ℕ → ℕ → Grant
+grantFrom q first last amount =
+    record {
+      user = q .user;
+      point = q .point;
+      kind = kindOf (q .product);
+      first = first;
+      last = last;
+      amount = amount;
+    }
+
+abbrev pub grantOf : Register → Request → ℕ → Grant
+grantOf r q amount = grantFrom q (spanFirst r q) (spanLast r q) amount
+
 -- question 11: "commitment plus charge of the asked amount"
 abbrev pub chargeAsked : Register → Request → ℕ
-chargeAsked r q = charge (q .amount) (daysAsked r q) (pointAt (r .points) (q .point) .rate)
+chargeAsked r q = chargeOf r (grantOf r q (q .amount))
 
 -- question 12: "Is anything free on every day of a request's span?"
 abbrev pub isFree : List ℕ → ℕ → ℕ → Bool
@@ -63,7 +86,7 @@ freeThroughout r f q = allBelow (daysAsked r q) (isFree f (spanPlace r q))
 -- questions 11, 12 and 13
 abbrev pub amountQuestions : Register → List ℕ → Request → List Question
 amountQuestions r f q =
-    11 asks covers (accountAt (r .accounts) (q .user)) (chargeAsked r q)
+    11 asks covers (accountOf r q) (chargeAsked r q)
     ∷ 12 asks freeThroughout r f q
     ∷ 13 asks linesLeft r 1
     ∷ []
@@ -71,7 +94,7 @@ amountQuestions r f q =
 -- questions 8 and 9, then these
 abbrev pub spanQuestions : Register → List ℕ → Request → List Question
 spanQuestions r f q =
-    8 asks spanOk (r .year) (q .arrival) (spanFirst r q) (spanLast r q)
+    8 asks isInYear (r .year) (q .arrival) (q .product)
     ∷ 9 asks isInTime (r .year) (q .arrival) (q .product)
     ∷ amountQuestions r f q
 
@@ -80,9 +103,9 @@ abbrev pub requestQuestions : State → Request → List Question
 requestQuestions s q =
     1 asks inOrder s
     ∷ 2 asks requestFields q
-    ∷ 3 asks isOpen (pointAt (s .register .points) (q .point))
-    ∷ 5 asks isOnFile (accountAt (s .register .accounts) (q .user))
-    ∷ 7 asks isOffered (pointAt (s .register .points) (q .point)) (q .product)
+    ∷ 3 asks isOpen (pointOf (s .register) q)
+    ∷ 5 asks isOnFile (accountOf (s .register) q)
+    ∷ 7 asks isOffered (pointOf (s .register) q) (q .product)
     ∷ spanQuestions (s .register) (s .free) q
 
 unfoldable pub requestNumber : State → Request → ℕ
@@ -95,21 +118,7 @@ amountGranted r f q = leastOf f (spanPlace r q) (daysAsked r q) (q .amount)
 unfoldable pub requestAmount : State → Request → ℕ
 requestAmount s q = leaves (requestNumber s q) (amountGranted (s .register) (s .free) q) 0
 
--- the grant of an accepted request
-abbrev pub grantOf : Register → Request → ℕ → Grant
-grantOf r q amount =
-    record {
-      user = q .user;
-      point = q .point;
-      kind = kindOf (q .product);
-      first = spanFirst r q;
-      last = spanLast r q;
-      amount = amount;
-    }
-
 -- "The grant is taken from each of those days, its charge joins the commitment, one line is written."
-unfoldable pub conferred : State → Request → State
-conferred s q = booked s (grantOf (s .register) q (amountGranted (s .register) (s .free) q))
-
 unfoldable pub requestAfter : State → Request → State
-requestAfter s q = leaves (requestNumber s q) (conferred s q) s
+requestAfter s q =
+    leaves (requestNumber s q) (booked s (grantOf (s .register) q (amountGranted (s .register) (s .free) q))) s

@@ -3,9 +3,8 @@ ghost use mathlib.Core.Path.{_≡_};
 ghost use mathlib.Core.Bool.{true};
 ghost use Rattle.conferral.specs.Spans.{arrives};
 ghost use Rattle.requests.specs.Products.{kindOf, monthOk, isOffered, isInTime};
-ghost use Rattle.requests.specs.Steps.{isTimely, daySpan, spanAnswer};
+ghost use Rattle.requests.specs.Steps.{daySpan, spanAnswer};
 use calendar::Span;
-use calendar::Timeliness;
 use register::Point;
 
 // The rest of the year, a month of it (1 is October) or a gas-day.
@@ -28,7 +27,7 @@ pub struct Request {
 const DEADLINE: u8 = 11;
 
 // The kind of the ledger line.
-pub(crate) fn line_kind(product: Product) -> u32
+pub(crate) fn line_kind(product: Product) -> u8
     ensures { λ v. ⌜ v ≡ kindOf product ⌝ }
 {
     match product {
@@ -55,8 +54,8 @@ pub(crate) fn is_offered(p: Point, product: Product) -> bool
 {
     match product {
         Product::Annual => true,
-        Product::Month(_) => p.kind != 1,
-        Product::Day(_) => p.kind != 1,
+        Product::Month(_) => !register::is_direct(p),
+        Product::Day(_) => !register::is_direct(p),
     }
 }
 
@@ -85,24 +84,14 @@ pub(crate) fn span_of(year: u16, arrival: u16, product: Product) -> Span
     }
 }
 
-fn is_timely(t: Timeliness) -> bool
-    ensures { λ v. ⌜ v ≡ isTimely t ⌝ }
-{
-    match t {
-        Timeliness::InTime => true,
-        Timeliness::Late => false,
-        Timeliness::OutsideCalendar => false,
-    }
-}
-
 // Question 9.
 pub(crate) fn is_in_time(year: u16, arrival: u16, product: Product) -> bool
     requires { ⌜ (arrives year arrival ≡ true) × (monthOk product ≡ true) ⌝ }
     ensures { λ v. ⌜ v ≡ isInTime year arrival product ⌝ }
 {
     match product {
-        Product::Annual => is_timely(calendar::in_time_own_month(arrival, DEADLINE)),
-        Product::Month(month) => is_timely(calendar::in_time_preceding_month(
+        Product::Annual => conferral::is_timely(calendar::in_time_own_month(arrival, DEADLINE)),
+        Product::Month(month) => conferral::is_timely(calendar::in_time_preceding_month(
             arrival,
             year,
             month,

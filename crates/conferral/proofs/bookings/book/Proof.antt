@@ -8,14 +8,6 @@ use native.Mathlib.Omega.{arith}
 use borrow.Author.Needs.{needs}
 use Rattle.conferral.proofs.bookings.book.Statement.{statement}
 use Rattle.conferral.proofs.bookings.book.Tie as tie
-use Rattle.conferral.proofs.bookings.book.Reads as reads
-use Rattle.conferral.proofs.bookings.book.Lts as lts
-use Rattle.conferral.proofs.bookings.charged_register.Reads as charged-register-reads
-use Rattle.conferral.proofs.bookings.has_room.Reads as has-room-reads
-use Rattle.conferral.proofs.bookings.line_of.Reads as line-of-reads
-use Rattle.register.proofs.entry_of.Reads as entry-of-reads
-use Rattle.register.proofs.take_free.Reads as take-free-reads
-use Rattle.register.proofs.write_line.Reads as write-line-reads
 
 fits : (c : tie.Else1) → hasRoom (c .before .before .before .before .args .r) (c .before .before .before .before .args .g) ≡ true
 fits c = sym (c .before .has-room .ensures) ∙ not-false _ (c .if1 .left)

@@ -5,9 +5,6 @@ use native.Mathlib.Omega.{arith}
 use borrow.Author.Needs.{needs}
 use Rattle.conferral.proofs.bookings.charge_at.Statement.{statement}
 use Rattle.conferral.proofs.bookings.charge_at.Tie as tie
-use Rattle.conferral.proofs.bookings.charge_at.Reads as reads
-use Rattle.conferral.proofs.bookings.charge_at.Lts as lts
-use Rattle.register.proofs.charge_of.Reads as charge-of-reads
 
 add-charge-of : tie.Need-add-charge-of
 add-charge-of c = omega (arith, c .before .pre .1 .0)

@@ -6,9 +6,6 @@ use native.Mathlib.Omega.{arith}
 use borrow.Author.Needs.{needs}
 use Rattle.conferral.proofs.bookings.charged_account.Statement.{statement}
 use Rattle.conferral.proofs.bookings.charged_account.Tie as tie
-use Rattle.conferral.proofs.bookings.charged_account.Reads as reads
-use Rattle.conferral.proofs.bookings.charged_account.Lts as lts
-use Rattle.register.proofs.accounts.Account.charged.Reads as charged-reads
 
 charged-requires : tie.Need-charged-requires
 charged-requires c κs = search needs

@@ -7,10 +7,6 @@ use native.Mathlib.Omega.{arith}
 use borrow.Author.Needs.{needs}
 use Rattle.conferral.proofs.bookings.charged_register.Statement.{statement}
 use Rattle.conferral.proofs.bookings.charged_register.Tie as tie
-use Rattle.conferral.proofs.bookings.charged_register.Reads as reads
-use Rattle.conferral.proofs.bookings.charged_register.Lts as lts
-use Rattle.conferral.proofs.bookings.charged_account.Reads as charged-account-reads
-use Rattle.conferral.proofs.bookings.grant_charge.Reads as grant-charge-reads
 
 of-room : (c : tie.Start) → Room (c .args .t1) (c .args .g)
 of-room c = room (c .args .t1) (c .args .g) (c .pre)

@@ -6,8 +6,6 @@ use native.Mathlib.Omega.{arith}
 use borrow.Author.Needs.{needs}
 use Rattle.conferral.proofs.bookings.covers_charge.Statement.{statement}
 use Rattle.conferral.proofs.bookings.covers_charge.Tie as tie
-use Rattle.conferral.proofs.bookings.covers_charge.Reads as reads
-use Rattle.conferral.proofs.bookings.covers_charge.Lts as lts
 
 returns : tie.Need-returns
 returns c = let a = c .before .before .args in sym (lt-leb (a .a .commitment + a .charge) (a .a .guarantee) (omega arith))

@@ -4,9 +4,6 @@ use native.Mathlib.Omega.{arith}
 use borrow.Author.Needs.{needs}
 use Rattle.conferral.proofs.bookings.grant_charge.Statement.{statement}
 use Rattle.conferral.proofs.bookings.grant_charge.Tie as tie
-use Rattle.conferral.proofs.bookings.grant_charge.Reads as reads
-use Rattle.conferral.proofs.bookings.grant_charge.Lts as lts
-use Rattle.conferral.proofs.bookings.charge_at.Reads as charge-at-reads
 
 -- its fields are within limits
 of-limits : (c : tie.Start) → LimitFacts (c .args .t1 .year) (c .args .g)

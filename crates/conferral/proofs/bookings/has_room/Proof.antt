@@ -4,9 +4,6 @@ use native.Mathlib.Omega.{arith}
 use borrow.Author.Needs.{needs}
 use Rattle.conferral.proofs.bookings.has_room.Statement.{statement}
 use Rattle.conferral.proofs.bookings.has_room.Tie as tie
-use Rattle.conferral.proofs.bookings.has_room.Reads as reads
-use Rattle.conferral.proofs.bookings.has_room.Lts as lts
-use Rattle.conferral.proofs.bookings.is_covered.Reads as is-covered-reads
 
 is-covered-requires : tie.Need-is-covered-requires
 is-covered-requires c κs = search needs

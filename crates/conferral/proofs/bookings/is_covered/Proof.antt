@@ -8,11 +8,6 @@ use native.Mathlib.Omega.{arith}
 use borrow.Author.Needs.{needs}
 use Rattle.conferral.proofs.bookings.is_covered.Statement.{statement}
 use Rattle.conferral.proofs.bookings.is_covered.Tie as tie
-use Rattle.conferral.proofs.bookings.is_covered.Reads as reads
-use Rattle.conferral.proofs.bookings.is_covered.Lts as lts
-use Rattle.conferral.proofs.bookings.covers_charge.Reads as covers-charge-reads
-use Rattle.conferral.proofs.bookings.grant_charge.Reads as grant-charge-reads
-use Rattle.conferral.proofs.bookings.is_within_limits.Reads as is-within-limits-reads
 
 of-limits : (c : tie.Else1) → withinLimits (c .before .before .args .t1 .year) (c .before .before .args .g) ≡ true
 of-limits c = sym (c .before .is-within-limits .ensures) ∙ not-false _ (c .if1 .left)

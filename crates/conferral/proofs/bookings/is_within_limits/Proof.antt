@@ -3,9 +3,6 @@ use native.Mathlib.Omega.{arith}
 use borrow.Author.Needs.{needs}
 use Rattle.conferral.proofs.bookings.is_within_limits.Statement.{statement}
 use Rattle.conferral.proofs.bookings.is_within_limits.Tie as tie
-use Rattle.conferral.proofs.bookings.is_within_limits.Reads as reads
-use Rattle.conferral.proofs.bookings.is_within_limits.Lts as lts
-use Rattle.conferral.proofs.spans.is_span.Reads as is-span-reads
 
 is-span-requires : tie.Need-is-span-requires
 is-span-requires c κs = search needs

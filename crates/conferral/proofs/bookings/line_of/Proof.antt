@@ -5,8 +5,6 @@ use native.Mathlib.Omega.{arith}
 use borrow.Author.Needs.{needs}
 use Rattle.conferral.proofs.bookings.line_of.Statement.{statement}
 use Rattle.conferral.proofs.bookings.line_of.Tie as tie
-use Rattle.conferral.proofs.bookings.line_of.Reads as reads
-use Rattle.conferral.proofs.bookings.line_of.Lts as lts
 
 cast-t2 : tie.Need-cast-t2
 cast-t2 c = search needs

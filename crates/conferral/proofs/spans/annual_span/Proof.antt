@@ -4,11 +4,6 @@ use Rattle.conferral.proofs.SpanLaws.{annual-from, no-annual}
 use borrow.Author.Needs.{needs}
 use Rattle.conferral.proofs.spans.annual_span.Statement.{statement}
 use Rattle.conferral.proofs.spans.annual_span.Tie as tie
-use Rattle.conferral.proofs.spans.annual_span.Reads as reads
-use Rattle.conferral.proofs.spans.annual_span.Lts as lts
-use Rattle.calendar.proofs.next_first.Reads as next-first-reads
-use Rattle.calendar.proofs.thermal_year.Reads as thermal-year-reads
-use Rattle.conferral.proofs.spans.span_from.Reads as span-from-reads
 
 thermal-year-requires : tie.Need-thermal-year-requires
 thermal-year-requires c κs = search needs

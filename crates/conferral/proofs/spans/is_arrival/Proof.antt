@@ -8,9 +8,6 @@ use native.Mathlib.Omega.{arith}
 use borrow.Author.Needs.{needs}
 use Rattle.conferral.proofs.spans.is_arrival.Statement.{statement}
 use Rattle.conferral.proofs.spans.is_arrival.Tie as tie
-use Rattle.conferral.proofs.spans.is_arrival.Reads as reads
-use Rattle.conferral.proofs.spans.is_arrival.Lts as lts
-use Rattle.calendar.proofs.thermal_year.Reads as thermal-year-reads
 
 -- this is the year's span
 span : (c : tie.After-known-told) → YearSpan (c .before .before .before .before .args .year) (c .before .span .given .0 .0) (c .before .span .given .0 .1 .0)

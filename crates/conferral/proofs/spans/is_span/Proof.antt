@@ -4,9 +4,6 @@ use native.Mathlib.Omega.{arith}
 use borrow.Author.Needs.{needs}
 use Rattle.conferral.proofs.spans.is_span.Statement.{statement}
 use Rattle.conferral.proofs.spans.is_span.Tie as tie
-use Rattle.conferral.proofs.spans.is_span.Reads as reads
-use Rattle.conferral.proofs.spans.is_span.Lts as lts
-use Rattle.calendar.proofs.thermal_year.Reads as thermal-year-reads
 
 thermal-year-requires : tie.Need-thermal-year-requires
 thermal-year-requires c κs = search needs

@@ -1,8 +1,6 @@
 use borrow.Author.Needs.{needs}
 use Rattle.conferral.proofs.spans.span_from.Statement.{statement}
 use Rattle.conferral.proofs.spans.span_from.Tie as tie
-use Rattle.conferral.proofs.spans.span_from.Reads as reads
-use Rattle.conferral.proofs.spans.span_from.Lts as lts
 
 enum-known-day : tie.Need-enum-known-day
 enum-known-day c = search needs

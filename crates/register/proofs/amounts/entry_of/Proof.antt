@@ -11,10 +11,6 @@ use native.Mathlib.Omega.{arith}
 use borrow.Author.Needs.{needs}
 use Rattle.register.proofs.amounts.entry_of.Statement.{statement}
 use Rattle.register.proofs.amounts.entry_of.Tie as tie
-use Rattle.register.proofs.amounts.entry_of.Reads as reads
-use Rattle.register.proofs.amounts.entry_of.Lts as lts
-use Rattle.calendar.proofs.thermal_year.Reads as thermal-year-reads
-use Rattle.register.proofs.amounts.entry_at.Reads as entry-at-reads
 
 -- this is the year's span
 span : (c : tie.After-known-told) → YearSpan (c .before .before .before .before .args .year) (c .before .span .given .0 .0) (c .before .span .given .0 .1 .0)

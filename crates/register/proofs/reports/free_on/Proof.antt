@@ -5,9 +5,6 @@ use native.Mathlib.Omega.{arith}
 use borrow.Author.Needs.{needs}
 use Rattle.register.proofs.reports.free_on.Statement.{statement}
 use Rattle.register.proofs.reports.free_on.Tie as tie
-use Rattle.register.proofs.reports.free_on.Reads as reads
-use Rattle.register.proofs.reports.free_on.Lts as lts
-use Rattle.register.proofs.amounts.entry_of.Reads as entry-of-reads
 
 -- the entry, which lies in the table
 entry : (c : tie.After-entry-of) → (let a = c .before .before .args in c .entry-of .result ≡ entryOf (a .year) (a .point) (a .day))

@@ -2,9 +2,6 @@ use mathlib.Core.Path.{sym, _∙_}
 use borrow.Author.Needs.{needs}
 use Rattle.requests.proofs.products.day_span.Statement.{statement}
 use Rattle.requests.proofs.products.day_span.Tie as tie
-use Rattle.requests.proofs.products.day_span.Reads as reads
-use Rattle.requests.proofs.products.day_span.Lts as lts
-use Rattle.calendar.proofs.in_thermal_year.Reads as in-thermal-year-reads
 
 in-thermal-year-requires : tie.Need-in-thermal-year-requires
 in-thermal-year-requires c κs = search needs

@@ -1,14 +1,9 @@
 use mathlib.Core.Path.{ap, _∙_}
-use Rattle.requests.specs.Steps.{isTimely}
+use Rattle.conferral.specs.Spans.{isTimely}
 use Rattle.requests.proofs.ProductLaws.{annual-in-time, month-in-time}
 use borrow.Author.Needs.{needs}
 use Rattle.requests.proofs.products.is_in_time.Statement.{statement}
 use Rattle.requests.proofs.products.is_in_time.Tie as tie
-use Rattle.requests.proofs.products.is_in_time.Reads as reads
-use Rattle.requests.proofs.products.is_in_time.Lts as lts
-use Rattle.calendar.proofs.in_time_own_month.Reads as in-time-own-month-reads
-use Rattle.calendar.proofs.in_time_preceding_month.Reads as in-time-preceding-month-reads
-use Rattle.requests.proofs.products.is_timely.Reads as is-timely-reads
 
 enum-told : tie.Need-enum-told
 enum-told c = search needs

@@ -1,8 +1,6 @@
 use borrow.Author.Needs.{needs}
 use Rattle.requests.proofs.products.is_month_within_limits.Statement.{statement}
 use Rattle.requests.proofs.products.is_month_within_limits.Tie as tie
-use Rattle.requests.proofs.products.is_month_within_limits.Reads as reads
-use Rattle.requests.proofs.products.is_month_within_limits.Lts as lts
 
 enum-told : tie.Need-enum-told
 enum-told c = search needs

@@ -6,12 +6,6 @@ use Rattle.requests.proofs.ProductLaws.{no-arrival, annual-span, month-
 use borrow.Author.Needs.{needs}
 use Rattle.requests.proofs.products.span_of.Statement.{statement}
 use Rattle.requests.proofs.products.span_of.Tie as tie
-use Rattle.requests.proofs.products.span_of.Reads as reads
-use Rattle.requests.proofs.products.span_of.Lts as lts
-use Rattle.calendar.proofs.thermal_month.Reads as thermal-month-reads
-use Rattle.conferral.proofs.annual_span.Reads as annual-span-reads
-use Rattle.conferral.proofs.is_arrival.Reads as is-arrival-reads
-use Rattle.requests.proofs.products.day_span.Reads as day-span-reads
 
 -- the arrival is one of the year's
 arrived : (c : tie.Else1) → (let a = c .before .before .args in arrives (a .year) (a .arrival) ≡ true)

@@ -4,18 +4,10 @@ use borrow.Author.Tests.{not-true, not-false}
 use Rattle.register.specs.Registers.{State, state, pointAt, accountAt}
 use Rattle.register.specs.Order.{isOpen, isOnFile, inOrder}
 use Rattle.requests.specs.RequestCapacity.{requestFields, spanQuestions, requestQuestions}
-use Rattle.requests.proofs.RequestLaws.{fields, ready, decides-too}
+use Rattle.requests.proofs.RequestLaws.{fields, decides-too}
 use borrow.Author.Needs.{needs}
 use Rattle.requests.proofs.requesting.decide.Statement.{statement}
 use Rattle.requests.proofs.requesting.decide.Tie as tie
-use Rattle.requests.proofs.requesting.decide.Reads as reads
-use Rattle.requests.proofs.requesting.decide.Lts as lts
-use Rattle.register.proofs.is_on_file.Reads as is-on-file-reads
-use Rattle.register.proofs.in_order.Reads as in-order-reads
-use Rattle.register.proofs.is_open.Reads as is-open-reads
-use Rattle.requests.proofs.products.is_offered.Reads as is-offered-reads
-use Rattle.requests.proofs.requesting.decide_span.Reads as decide-span-reads
-use Rattle.requests.proofs.requesting.fields_within_limits.Reads as fields-within-limits-reads
 
 -- what is known after each question
 abbrev asked : tie.Start → State
@@ -91,9 +83,7 @@ returns-5 c =
     rw (one (b .before .before), two b, three d, five e, sym (c .before .is-offered .ensures) ∙ not-true _ (c .if5 .taken))
 
 decide-span-requires : tie.Need-decide-span-requires
-decide-span-requires c κs =
-    let b = c .before .before .before .before .before .before .before .before .before .before in
-    ready (asked (c .before .before .before .before .before .before .before .before .before .before .before .before .before .before .before .before)) (c .before .before .before .before .before .before .before .before .before .before .before .before .before .before .before .before .args .q) (one (b .before .before)) (two b)
+decide-span-requires c κs = two (c .before .before .before .before .before .before .before .before .before .before)
 
 returns-6 : tie.Need-returns-6
 returns-6 c =

@@ -10,15 +10,10 @@ use Rattle.requests.proofs.RequestLaws.{fields, spanned, no-span, decid
 use borrow.Author.Needs.{needs}
 use Rattle.requests.proofs.requesting.decide_span.Statement.{statement}
 use Rattle.requests.proofs.requesting.decide_span.Tie as tie
-use Rattle.requests.proofs.requesting.decide_span.Reads as reads
-use Rattle.requests.proofs.requesting.decide_span.Lts as lts
-use Rattle.requests.proofs.products.is_in_time.Reads as is-in-time-reads
-use Rattle.requests.proofs.products.span_of.Reads as span-of-reads
-use Rattle.requests.proofs.requesting.decide_amount.Reads as decide-amount-reads
 
 -- the span, and question 8
 is-month : (c : tie.Start) → monthOk (c .args .q .product) ≡ true
-is-month c = fields (c .args .q) (c .pre .fields) .month
+is-month c = fields (c .args .q) (c .pre) .month
 
 span : (c : tie.After-known-told) → Spanned (c .before .before .before .before .before .args .r) (c .before .before .before .before .before .args .q) (c .before .span .given .0 .0) (c .before .span .given .0 .1 .0)
 span c = spanned (c .before .before .before .before .before .args .r) (c .before .before .before .before .before .args .q) _ _ (sym (c .before .before .before .span-of .ensures) ∙ c .before .span .given .1)

@@ -1,9 +1,6 @@
 use borrow.Author.Needs.{needs}
 use Rattle.requests.proofs.requesting.fields_within_limits.Statement.{statement}
 use Rattle.requests.proofs.requesting.fields_within_limits.Tie as tie
-use Rattle.requests.proofs.requesting.fields_within_limits.Reads as reads
-use Rattle.requests.proofs.requesting.fields_within_limits.Lts as lts
-use Rattle.requests.proofs.products.is_month_within_limits.Reads as is-month-within-limits-reads
 
 cast-result : tie.Need-cast-result
 cast-result c = search needs

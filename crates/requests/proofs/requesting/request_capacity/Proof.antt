@@ -1,17 +1,13 @@
 use mathlib.Core.Path.{subst}
 use Rattle.register.specs.Registers.{State, state}
 use Rattle.requests.specs.declared.requesting.Decision.{Decision}
-use Rattle.requests.specs.declared.requesting.Decision.the-variants.{Grant, Refuse}
+use Rattle.requests.specs.declared.requesting.Decision.the-variants.{Confer, Refuse}
 use Rattle.requests.specs.RequestCapacity.{requestQuestions}
 use Rattle.requests.specs.Steps.{Decides}
-use Rattle.requests.proofs.AnswerLaws.{bookable, request-granted, request-refused}
+use Rattle.requests.proofs.AnswerLaws.{decided, refused}
 use borrow.Author.Needs.{needs}
 use Rattle.requests.proofs.requesting.request_capacity.Statement.{statement}
 use Rattle.requests.proofs.requesting.request_capacity.Tie as tie
-use Rattle.requests.proofs.requesting.request_capacity.Reads as reads
-use Rattle.requests.proofs.requesting.request_capacity.Lts as lts
-use Rattle.requests.proofs.requesting.book.Reads as book-reads
-use Rattle.requests.proofs.requesting.decide.Reads as decide-reads
 
 abbrev asked : tie.Start → State
 asked c = state (c .args .r) (c .args .free .now) (c .args .ledger .now)
@@ -20,8 +16,8 @@ asked c = state (c .args .r) (c .args .free .now) (c .args .ledger .now)
 abbrev DecidesHere : tie.Start → Decision → Type 0
 DecidesHere c d = Decides (requestQuestions (asked c) (c .args .q)) (c .args .r) (c .args .free .now) (c .args .q) d
 
-grants : (c : tie.After-known-told) → (let v = c .before .decision .given .0 in DecidesHere (c .before .before .before .before .before .before .before .before) (Grant (v .0) (v .1 .0) (v .1 .1 .0)))
-grants c = subst (DecidesHere (c .before .before .before .before .before .before .before .before)) (c .before .decision .given .1) (c .before .before .before .decide .ensures)
+confers : (c : tie.After-known-told) → DecidesHere (c .before .before .before .before .before .before .before .before) (Confer (c .before .decision .given .0 .0))
+confers c = subst (DecidesHere (c .before .before .before .before .before .before .before .before)) (c .before .decision .given .1) (c .before .before .before .decide .ensures)
 
 refuses : (c : tie.After-known-told2) → DecidesHere (c .before .before .before .before .before .before .before .before) (Refuse (c .before .decision2 .given .0 .0))
 refuses c = subst (DecidesHere (c .before .before .before .before .before .before .before .before)) (c .before .decision2 .given .1) (c .before .before .before .decide .ensures)
@@ -33,9 +29,7 @@ enum-known-decision : tie.Need-enum-known-decision
 enum-known-decision c = search needs
 
 book-requires : tie.Need-book-requires
-book-requires c κs =
-    let t = c .before .before in
-    bookable (asked (t .before .before .before .before .before .before .before .before)) (t .before .before .before .before .before .before .before .before .args .q) _ _ _ (grants t)
+book-requires c κs = search needs
 
 enum-known-decision-2 : tie.Need-enum-known-decision-2
 enum-known-decision-2 c = search needs
@@ -49,7 +43,7 @@ same-length-2 c = search needs
 returns : tie.Need-returns
 returns c =
     let t = c .before .before .before .before .before .before .before in
-    request-granted (asked (t .before .before .before .before .before .before .before .before)) (t .before .before .before .before .before .before .before .before .args .q) _ _ _ (grants t) _ (c .before .before .before .before .book .ensures)
+    decided (asked (t .before .before .before .before .before .before .before .before)) (t .before .before .before .before .before .before .before .before .args .q) (t .before .decision .given .0 .0) _ (confers t) (c .before .before .before .before .book .ensures)
 
 same-length-3 : tie.Need-same-length-3
 same-length-3 c = search needs
@@ -58,7 +52,7 @@ same-length-4 : tie.Need-same-length-4
 same-length-4 c = search needs
 
 returns-2 : tie.Need-returns-2
-returns-2 c = request-refused (asked (c .before .before .before .before .before .before .before .before)) (c .before .before .before .before .before .before .before .before .args .q) (c .before .decision2 .given .0 .0) (refuses c)
+returns-2 c = refused (asked (c .before .before .before .before .before .before .before .before)) (c .before .before .before .before .before .before .before .before .args .q) (c .before .decision2 .given .0 .0) (refuses c)
 
 pub request-capacity-spec : {M : Type 1} → statement M
 request-capacity-spec =
