@@ -8,7 +8,7 @@ use native.Mathlib.Decide.{ℕ-discrete}
 use native.Mathlib.Omega.{arith}
 use lib.Dec.{eqb}
 use lib.IntN.{pos}
-use lib.ListN.{getD, set, length, length-set}
+use lib.ListN.{getD, length, length-set}
 use mir.Syntax.{w32}
 use mir.Val.{SFits}
 use Rattle.calendar.specs.Days.{between}
@@ -17,7 +17,7 @@ use Rattle.calendar.proofs.Ranges.{and-right, Within, within, is-between}
 use Rattle.register.specs.declared.points.Point.{Point}
 use Rattle.register.specs.declared.accounts.Account.{Account}
 use Rattle.register.specs.declared.ledger.Line.{Line}
-use Rattle.register.specs.Limits.{pointCount, userCount, rowLength, mostAmount}
+use Rattle.register.specs.Limits.{pointCount, rowLength, mostAmount}
 use Rattle.register.specs.Registers.{State, pointAt, accountAt, absentUser}
 use Rattle.register.specs.Ledger.{lineAt, withLine, lineLast}
 use Rattle.register.specs.Amounts.{entryAt, entryOf, freeOn}
@@ -30,7 +30,7 @@ use Rattle.register.proofs.OrderFacts.{InOrder, ordered, in-order, guarantee-le
 use Rattle.register.proofs.OrderKept.{set-keeps, account-same, account-other, field-kept, line-carry}
 use Rattle.conferral.specs.declared.bookings.Grant.{Grant}
 use Rattle.conferral.specs.Bookings.{daysOf, chargeOf, committed, lineOf, booked}
-use Rattle.conferral.proofs.RoomLaws.{Room, days-most}
+use Rattle.conferral.proofs.RoomLaws.{Room}
 
 -- a grant that can be booked with the register left in order
 pub record Bookable (s : State) (g : Grant) : Type 0 where

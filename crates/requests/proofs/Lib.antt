@@ -1,3 +1,6 @@
 pub mod ProductLaws
 pub mod RequestLaws
 pub mod AnswerLaws
+pub mod ConferredLaws
+pub mod RefusalLaws
+pub mod Cases

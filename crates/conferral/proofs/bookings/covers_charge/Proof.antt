@@ -3,7 +3,6 @@ use Prim.Native.Nat.{_+_, _-_}
 use borrow.Author.Tests.{lt-leb}
 use Rattle.conferral.proofs.RoomLaws.{same-leb}
 use native.Mathlib.Omega.{arith}
-use borrow.Author.Needs.{needs}
 use Rattle.conferral.proofs.bookings.covers_charge.Statement.{statement}
 use Rattle.conferral.proofs.bookings.covers_charge.Tie as tie
 

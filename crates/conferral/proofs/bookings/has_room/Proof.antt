@@ -1,6 +1,5 @@
 use native.Mathlib.Numerals.{add-one}
 use Rattle.conferral.specs.Bookings.{hasRoom}
-use native.Mathlib.Omega.{arith}
 use borrow.Author.Needs.{needs}
 use Rattle.conferral.proofs.bookings.has_room.Statement.{statement}
 use Rattle.conferral.proofs.bookings.has_room.Tie as tie

@@ -4,7 +4,6 @@ use borrow.Author.Tests.{not-true, not-false}
 use Rattle.register.specs.Registers.{accountAt}
 use Rattle.conferral.specs.Bookings.{covers, withinLimits, isCovered}
 use Rattle.conferral.proofs.RoomLaws.{limits}
-use native.Mathlib.Omega.{arith}
 use borrow.Author.Needs.{needs}
 use Rattle.conferral.proofs.bookings.is_covered.Statement.{statement}
 use Rattle.conferral.proofs.bookings.is_covered.Tie as tie

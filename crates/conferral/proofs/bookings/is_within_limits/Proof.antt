@@ -1,5 +1,4 @@
 use Rattle.conferral.specs.Bookings.{withinLimits}
-use native.Mathlib.Omega.{arith}
 use borrow.Author.Needs.{needs}
 use Rattle.conferral.proofs.bookings.is_within_limits.Statement.{statement}
 use Rattle.conferral.proofs.bookings.is_within_limits.Tie as tie

@@ -1,6 +1,5 @@
 use mathlib.Core.Path.{sym, _∙_}
 use Rattle.calendar.proofs.SpanLaws.{year-span, no-year}
-use native.Mathlib.Omega.{arith}
 use borrow.Author.Needs.{needs}
 use Rattle.conferral.proofs.spans.is_span.Statement.{statement}
 use Rattle.conferral.proofs.spans.is_span.Tie as tie

@@ -1,4 +1,3 @@
-use native.Mathlib.Omega.{arith}
 use borrow.Author.Needs.{needs}
 use Rattle.requests.proofs.requesting.grant_of.Statement.{statement}
 use Rattle.requests.proofs.requesting.grant_of.Tie as tie
