@@ -27,7 +27,7 @@ spanInYear y first last = isThermalYear y && spanFits y first last
 abbrev pub spanOk : ℕ → ℕ → ℕ → ℕ → Bool
 spanOk y a first last = arrives y a && spanFits y first last
 
--- a span where a test holds
+-- a span where a test holds, and else none: the case `OutsideCalendar` says that
 abbrev pub spanWhere : Bool → ℕ → ℕ → Span
 spanWhere t first last = cond t (Days first last) OutsideCalendar
 

@@ -1,4 +1,5 @@
-// When a call may arrive, and the span to the year's end.
+// When a call may arrive, and the span to the year's end. Where there is no such span the answer is `Span::OutsideCalendar`, also
+// for days of the calendar that lie outside the year.
 ghost use mathlib.Core.Path.{_≡_};
 ghost use Rattle.conferral.specs.Spans.{arrives, spanInYear, annualAnswer, isTimely};
 ghost use Rattle.conferral.specs.Steps.{spanFrom};

@@ -16,7 +16,7 @@ pub struct Conferred {
     pub answer: Conferral,
 }
 
-// The number and the amount of an answer: 0 is the number of a grant, and the amount of a refusal.
+// 0 for a grant, and else the number of the question that was answered no.
 pub fn conferral_number(answer: Conferral) -> u8
     ensures { λ v. ⌜ v ≡ numberOfConferral answer ⌝ }
 {
@@ -26,6 +26,7 @@ pub fn conferral_number(answer: Conferral) -> u8
     }
 }
 
+// The amount granted; 0 for a refusal.
 pub fn conferral_amount(answer: Conferral) -> u32
     ensures { λ v. ⌜ v ≡ amountOfConferral answer ⌝ }
 {
