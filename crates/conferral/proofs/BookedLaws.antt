@@ -13,7 +13,7 @@ use mir.Syntax.{w32}
 use mir.Val.{SFits}
 use Rattle.calendar.specs.Days.{between}
 use Rattle.calendar.specs.ThermalYears.{isThermalYear, inThermalYear, thermalFirst, thermalLast}
-use Rattle.calendar.proofs.Ranges.{and-right, Within, within, is-between}
+use Rattle.calendar.proofs.Ranges.{and-right, within, is-between}
 use Rattle.register.specs.declared.points.Point.{Point}
 use Rattle.register.specs.declared.accounts.Account.{Account}
 use Rattle.register.specs.declared.ledger.Line.{Line}
@@ -37,10 +37,8 @@ pub record Bookable (s : State) (g : Grant) : Type 0 where
   pub room : Room (s .register) g
   pub filed : accountAt (s .register .accounts) (g .user) .«on_file» ≡ 1
   pub open-point : 0 < pointAt (s .register .points) (g .point) .kind
-  pub kind : Within 1 3 (g .kind)
   pub month : (not (eqb (g .kind) 2) || isMonthFirst (s .register .year) (g .first)) ≡ true
   pub last : lineLast (s .register .year) (lineOf g) ≡ g .last
-  pub some : 1 ≤ g .amount
   pub free : (k : ℕ) → k < daysOf g → g .amount ≤ getD (s .free) (entryOf (s .register .year) (g .point) (g .first) + k) 0
 
 -- t is s with a grant booked, number by number
@@ -163,7 +161,7 @@ module _ (s : State) (g : Grant) (sound : Sound s) (b : Bookable s g) where
   line-now : lineAt (booked s g .ledger) (s .register .lines) ≡ lineOf g
   unfolding booked
   line-now =
-      read-back (s .ledger) (s .register .lines) (lineOf g) (omega (arith, order .ledger-length, b .room .line)) (amount-fits (g .amount) (b .room .limits .amount))
+      read-back (s .ledger) (s .register .lines) (lineOf g) (omega (arith, order .ledger-length, b .room .line)) (amount-fits (g .amount) (b .room .limits .amount .to))
 
   other-line : (i : ℕ) → (i ≡ s .register .lines → ⊥) → lineAt (booked s g .ledger) i ≡ lineAt (s .ledger) i
   unfolding booked
@@ -178,10 +176,10 @@ module _ (s : State) (g : Grant) (sound : Sound s) (b : Bookable s g) where
         point = w .point;
         filed = filed-still (g .user) ∙ b .filed;
         open-point = b .open-point;
-        kind = b .kind;
+        kind = w .kind;
         first = record { from = w .fit .begins; to = omega (arith, w .fit .ordered, w .fit .ends) };
         month = b .month;
-        amount = amount-ok (g .amount) (b .some) (w .amount);
+        amount = amount-ok (g .amount) (w .amount .from) (w .amount .to);
       })
 
   old-line-ok : (i : ℕ) → i < s .register .lines → lineOk y ps (booked s g .register .accounts) (lineAt (s .ledger) i) ≡ true

@@ -9,7 +9,7 @@ use native.Mathlib.Omega.{arith}
 use lib.Dec.{leb}
 use borrow.Author.Tests.{ltb-true, leb-true, leb-false, lt-ltb, le-leb}
 use Rattle.calendar.specs.ThermalYears.{isThermalYear, inThermalYear, thermalFirst, thermalLast}
-use Rattle.calendar.proofs.Ranges.{and-left, and-right, both, is-between}
+use Rattle.calendar.proofs.Ranges.{and-left, and-right, both, Within, within, is-between}
 use Rattle.register.specs.declared.accounts.Account.{Account}
 use Rattle.register.specs.declared.ledger.Line.{Line}
 use Rattle.register.specs.declared.registers.Register.{Register}
@@ -48,7 +48,8 @@ pub record LimitFacts (y : ℕ) (g : Grant) : Type 0 where
   pub fit : FitFacts y (g .first) (g .last)
   pub user : g .user < userCount
   pub point : g .point < pointCount
-  pub amount : g .amount ≤ mostAmount
+  pub kind : Within 1 3 (g .kind)
+  pub amount : Within 1 mostAmount (g .amount)
 
 module _ (y : ℕ) (g : Grant) where
   pub limits : withinLimits y g ≡ true → LimitFacts y g
@@ -60,7 +61,8 @@ module _ (y : ℕ) (g : Grant) where
         fit = fit-facts y (g .first) (g .last) (and-right (isThermalYear y) (spanFits y (g .first) (g .last)) span);
         user = ltb-true _ _ (every-at (limitTests y g) 1 h);
         point = ltb-true _ _ (every-at (limitTests y g) 2 h);
-        amount = leb-true _ _ (every-at (limitTests y g) 3 h);
+        kind = within 1 3 (g .kind) (every-at (limitTests y g) 3 h);
+        amount = within 1 mostAmount (g .amount) (every-at (limitTests y g) 4 h);
       }
 
   pub within-limits : LimitFacts y g → withinLimits y g ≡ true
@@ -68,16 +70,18 @@ module _ (y : ℕ) (g : Grant) where
   within-limits w =
       both _ _
       (both _ _
+      (both _ _
       (both _ _ (both _ _ (w .year) (span-fits y (g .first) (g .last) (w .fit))) (lt-ltb _ _ (w .user)))
       (lt-ltb _ _ (w .point)))
-      (le-leb _ _ (w .amount))
+      (is-between 1 3 (g .kind) (w .kind .from) (w .kind .to)))
+      (is-between 1 mostAmount (g .amount) (w .amount .from) (w .amount .to))
 
   -- its days are at most 366
   pub days-most : LimitFacts y g → daysOf g ≤ rowLength
   days-most w = omega (arith, w .fit .begins, w .fit .ordered, w .fit .ends, year-facts y (w .year) .most)
 
   -- its first day lies in the year
-  pub first-in : LimitFacts y g → inThermalYear y (g .first) ≡ true
+  first-in : LimitFacts y g → inThermalYear y (g .first) ≡ true
   first-in w =
       both _ _ (w .year)
       (is-between (thermalFirst y) (thermalLast y) (g .first) (w .fit .begins) (omega (arith, w .fit .ordered, w .fit .ends)))
@@ -129,7 +133,7 @@ pub not-booked : (s : State) (g : Grant) → hasRoom (s .register) g ≡ false �
 unfolding bookAfter
 not-booked s g h = rw h
 
--- a commitment that stays below a guarantee of 64 bits is raised by just the charge
+-- a commitment is raised by just the charge where 64 bits hold the sum
 pub charged-exact : (a : Account) (c : ℕ) → a .commitment + c ≤ mostWord → charged a c ≡ committed a c
 charged-exact a c h =
     let e : min (a .commitment + c) mostWord ≡ a .commitment + c = omega arith in

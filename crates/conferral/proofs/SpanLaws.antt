@@ -65,7 +65,7 @@ module _ (y first last : ℕ) where
 pub arrival-year : (y a : ℕ) → arrives y a ≡ true → isThermalYear y ≡ true
 arrival-year y a h = and-left (isThermalYear y) (between (dayNumber y 9 1) (thermalLast y) a) h
 
-pub arrival-in : (y a : ℕ) → arrives y a ≡ true → leb a lastDay ≡ true
+arrival-in : (y a : ℕ) → arrives y a ≡ true → leb a lastDay ≡ true
 arrival-in y a h =
     let w = within (dayNumber y 9 1) (thermalLast y) a (and-right (isThermalYear y) (between (dayNumber y 9 1) (thermalLast y) a) h) in
     le-leb a lastDay (omega (arith, w .to, year-facts y (arrival-year y a h) .last))

@@ -5,6 +5,7 @@ use mathlib.Core.Bool.{Bool, cond, _&&_}
 use mathlib.Core.List.{List, [], _∷_}
 use lib.Dec.{leb, ltb}
 use lib.IntN.{pos}
+use Rattle.calendar.specs.Days.{between}
 use Rattle.register.specs.declared.accounts.Account.{Account}
 use Rattle.register.specs.declared.ledger.Line.{Line}
 use Rattle.register.specs.declared.registers.Register.{Register}
@@ -25,7 +26,7 @@ covers a c = leb (a .commitment + c) (a .guarantee)
 abbrev pub linesLeft : Register → ℕ → Bool
 linesLeft r n = leb (r .lines + n) lineCount
 
--- a grant is to a user at a point, of an amount on each day from first to last
+-- the days of a grant
 abbrev pub daysOf : Grant → ℕ
 daysOf g = spanDays (g .first) (g .last)
 
@@ -52,13 +53,14 @@ booked s g =
     (taken (s .free) (entryOf (s .register .year) (g .point) (g .first)) (daysOf g) (g .amount))
     (withLine (s .ledger) (s .register .lines) (lineOf g))
 
--- a grant whose fields are within limits
+-- a grant whose fields are within limits, its span among them
 abbrev pub limitTests : ℕ → Grant → List Bool
 limitTests y g =
     spanInYear y (g .first) (g .last)
     ∷ ltb (g .user) userCount
     ∷ ltb (g .point) pointCount
-    ∷ leb (g .amount) mostAmount
+    ∷ between 1 3 (g .kind)
+    ∷ between 1 mostAmount (g .amount)
     ∷ []
 
 unfoldable pub withinLimits : ℕ → Grant → Bool
@@ -68,7 +70,8 @@ withinLimits y g = every (limitTests y g)
 unfoldable pub isCovered : Register → Grant → Bool
 isCovered r g = withinLimits (r .year) g && covers (accountAt (r .accounts) (g .user)) (chargeOf r g)
 
--- where a line is left as well it is booked, and else the register is left
+-- where a line is left as well it is booked, and else everything is left. That the point is open, the user on file and the amount
+-- free on each day is not asked here: the calls ask that, and `Bookable` (proofs) has what keeps a register in order
 unfoldable pub hasRoom : Register → Grant → Bool
 hasRoom r g = isCovered r g && linesLeft r 1
 

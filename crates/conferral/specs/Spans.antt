@@ -1,4 +1,4 @@
--- Document 01, question 8: when a call may arrive, and which span it may have.
+-- Document 01, questions 8 and 9: when a call may arrive, which span it may have, and whether it is in time.
 -- Assumes nothing.
 use Prim.Native.Nat.{ℕ, _+_}
 use mathlib.Core.Bool.{Bool, true, false, cond, _&&_}
@@ -31,10 +31,16 @@ spanOk y a first last = arrives y a && spanFits y first last
 abbrev pub spanWhere : Bool → ℕ → ℕ → Span
 spanWhere t first last = cond t (Days first last) OutsideCalendar
 
--- "from the first of the month after arrival to the year's end", where that is a span of the year
+-- "from the first of the month after arrival to the year's end"
+abbrev pub annualFirst : ℕ → ℕ
+annualFirst a = nextFirst a
+
+abbrev pub annualLast : ℕ → ℕ
+annualLast y = thermalLast y
+
+-- the same, where that is a span of the year
 unfoldable pub annualAnswer : ℕ → ℕ → Span
-annualAnswer y a =
-    spanWhere (spanInYear y (nextFirst a) (thermalLast y)) (nextFirst a) (thermalLast y)
+annualAnswer y a = spanWhere (spanInYear y (annualFirst a) (annualLast y)) (annualFirst a) (annualLast y)
 
 -- question 9: "In time?", as the calendar answers it
 abbrev pub isTimely : Timeliness → Bool

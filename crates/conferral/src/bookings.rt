@@ -31,7 +31,8 @@ fn is_within_limits(year: u16, g: Grant) -> bool
     is_span(year, g.first, g.last)
         & ((g.user as usize) < register::USERS)
         & ((g.point as usize) < register::POINTS)
-        & (g.amount <= register::MOST_AMOUNT)
+        & ((1 <= g.kind) & (g.kind <= 3))
+        & ((1 <= g.amount) & (g.amount <= register::MOST_AMOUNT))
 }
 
 // The charge of a grant at a point.
@@ -72,7 +73,8 @@ pub fn is_covered(r: Register, g: Grant) -> bool
     covers_charge(a, grant_charge(r, g))
 }
 
-// Whether a grant can be booked: a line is left for it too.
+// Whether a grant is booked: a line is left for it too. What is free, and whether the point is open and the user on file, is asked
+// before.
 fn has_room(r: Register, g: Grant) -> bool
     ensures { λ v. ⌜ v ≡ hasRoom r g ⌝ }
 {
@@ -126,7 +128,7 @@ pub fn book(r: Register, free: &mut [u32], ledger: &mut [u32], g: Grant) -> Regi
     let places = g.last as usize + 1 - g.first as usize;
     register::take_free(
         free,
-        register::entry_of(r.year, g.point, g.first),
+        register::entry_in(r.year, g.point, g.first),
         places,
         g.amount,
     );

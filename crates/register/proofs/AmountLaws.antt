@@ -32,7 +32,7 @@ pub entry-in : (y p d : ℕ) → inThermalYear y d ≡ true → entryIn y p d �
 unfolding entryIn
 entry-in y p d h = rw h
 
-pub entry-out : (y p d : ℕ) → inThermalYear y d ≡ false → entryIn y p d ≡ 0
+pub entry-out : (y p d : ℕ) → inThermalYear y d ≡ false → entryIn y p d ≡ tableLength
 unfolding entryIn
 entry-out y p d h = rw h
 

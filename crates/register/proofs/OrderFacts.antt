@@ -108,11 +108,6 @@ open-ok p o =
     (both _ _ (is-between 1 2 (p .kind) (o .kind .from) (o .kind .to)) (is-between 1 mostAmount (p .total) (o .total .from) (o .total .to)))
     (le-leb _ _ (o .rate)))
 
--- a rate is within its limit, at a closed point too
-pub rate-le : (p : Point) → pointOk p ≡ true → p .rate ≤ mostRate
-rate-le p h =
-    ⊎-elim (λ (e : Closed p). omega (arith, e .rate)) (λ (e : Open p). e .rate) (point-is p h)
-
 -- ---- accounts
 pub record Absent (a : Account) : Type 0 where
   pub absent : a .«on_file» ≡ 0

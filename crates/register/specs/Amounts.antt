@@ -31,9 +31,9 @@ entryAt p k = rowLength * p + k
 abbrev pub entryOf : ℕ → ℕ → ℕ → ℕ
 entryOf y p d = entryAt p (d - thermalFirst y)
 
--- the same, and 0 for a day outside the year
+-- the same, and for a day outside the year the place after the table's end
 unfoldable pub entryIn : ℕ → ℕ → ℕ → ℕ
-entryIn y p d = cond (inThermalYear y d) (entryOf y p d) 0
+entryIn y p d = cond (inThermalYear y d) (entryOf y p d) tableLength
 
 -- what can be free at a point on the k-th day from 1 October of a year with so many days: the total, and nothing after the
 -- year's end

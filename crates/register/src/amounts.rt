@@ -6,6 +6,7 @@ ghost use Rattle.register.specs.Ranges.{leastOf};
 ghost use Rattle.register.specs.Amounts.{daysOfYear, entryAt, entryIn, capacity, taken, freedRow, freedTable};
 use crate::limits::POINTS;
 use crate::limits::ROW;
+use crate::limits::TABLE;
 use crate::points::Point;
 use calendar::Span;
 
@@ -21,14 +22,14 @@ pub fn days_of_year(year: u16) -> usize
 }
 
 // The entry of the k-th day from 1 October, for a point.
-pub fn entry_at(point: u8, k: u16) -> usize
+fn entry_at(point: u8, k: u16) -> usize
     ensures { λ r. ⌜ r ≡ entryAt point k ⌝ }
 {
     ROW * (point as usize) + (k as usize)
 }
 
-// The entry of a gas-day of a thermal year, for a point; 0 for a day outside the year.
-pub fn entry_of(year: u16, point: u8, day: u16) -> usize
+// The entry of a gas-day of a thermal year, for a point; for a day outside the year the place after the table's end.
+pub fn entry_in(year: u16, point: u8, day: u16) -> usize
     ensures { λ r. ⌜ r ≡ entryIn year point day ⌝ }
 {
     let span = calendar::thermal_year(year);
@@ -37,10 +38,10 @@ pub fn entry_of(year: u16, point: u8, day: u16) -> usize
             if (first <= day) & (day <= last) {
                 entry_at(point, day - first)
             } else {
-                0
+                TABLE
             }
         }
-        Span::OutsideCalendar => 0,
+        Span::OutsideCalendar => TABLE,
     }
 }
 

@@ -8,7 +8,7 @@ ghost use Rattle.register.specs.Registers.{state};
 ghost use Rattle.register.specs.Amounts.{entryOf};
 ghost use Rattle.register.specs.Answers.{numberOfVerdict, numberOfReport, amountOfReport};
 ghost use Rattle.register.specs.Reports.{reportNumber, reportAmount};
-use crate::amounts::entry_of;
+use crate::amounts::entry_in;
 use crate::answers::Refusal;
 use crate::answers::Report;
 use crate::answers::Verdict;
@@ -42,7 +42,7 @@ fn free_on(year: u16, free: &[u32], point: u8, day: u16) -> u32
     requires { ⌜ (inThermalYear year day ≡ true) × (entryOf year point day < length (now free)) ⌝ }
     ensures { λ v. ⌜ v ≡ getD (now (free .entry)) (entryOf year point day) 0 ⌝ }
 {
-    free[entry_of(year, point, day)]
+    free[entry_in(year, point, day)]
 }
 
 // The free amount of a point and gas-day.

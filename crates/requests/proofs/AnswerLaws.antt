@@ -22,7 +22,7 @@ use Rattle.requests.specs.declared.requesting.Decision.the-variants.{Con
 use Rattle.requests.specs.Products.{isOffered, isInYear, isInTime}
 use Rattle.requests.specs.RequestCapacity.{daysAsked, spanPlace, pointOf, accountOf, chargeAsked, freeThroughout, requestQuestions, requestNumber, amountGranted, requestAmount, grantOf, requestAfter}
 use Rattle.requests.specs.Steps.{Decides}
-use Rattle.requests.proofs.RequestLaws.{FieldFacts, fields, grant-limits}
+use Rattle.requests.proofs.RequestLaws.{FieldFacts, fields, grant-limits, granted-free}
 
 module _ (s : State) (q : Request) where
   -- "A request that passes questions 1 to 13 is answered 0, and no other is."
@@ -64,11 +64,18 @@ module _ (s : State) (q : Request) where
         line = omega (arith, leb-true (s .register .lines + 1) lineCount (b .1 .1 .1 .1 .0));
       }
 
-  -- a grant is at most what is asked, and so is its charge
+  -- a grant is at most what is asked
   pub granted-le : amountGranted (s .register) (s .free) q ≤ q .amount
   unfolding amountGranted
   granted-le = least-le (s .free) (spanPlace (s .register) q) (q .amount) (daysAsked (s .register) q)
 
+  -- and more than nothing where the request is accepted
+  pub granted-from : requestNumber s q ≡ 0 → 1 ≤ amountGranted (s .register) (s .free) q
+  granted-from z =
+      let w = facts z in
+      ltb-true 0 (amountGranted (s .register) (s .free) q) (granted-free (s .register) (s .free) q (w .fields .amount .from) ∙ w .free)
+
+  -- its charge is at most that of what is asked
   charge-le : chargeOf (s .register) (grantOf (s .register) q (amountGranted (s .register) (s .free) q)) ≤ chargeAsked (s .register) q
   charge-le = mul-le-mul (mul-le-mul granted-le (omega arith)) (omega arith)
 
@@ -77,7 +84,7 @@ module _ (s : State) (q : Request) where
   granted-room z =
       let w = facts z in
       record {
-        limits = grant-limits (s .register) q (amountGranted (s .register) (s .free) q) (w .fields) (w .in-year) (omega (arith, granted-le, w .fields .amount .to));
+        limits = grant-limits (s .register) q (amountGranted (s .register) (s .free) q) (w .fields) (w .in-year) (record { from = granted-from z; to = omega (arith, granted-le, w .fields .amount .to) });
         covered = omega (arith, charge-le, w .covered);
         line = w .line;
       }

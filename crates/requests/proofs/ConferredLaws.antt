@@ -8,7 +8,7 @@ use native.Mathlib.Decide.{ℕ-discrete}
 use native.Mathlib.Omega.{arith}
 use lib.Dec.{eqb}
 use lib.ListN.{getD}
-use borrow.Author.Tests.{ltb-true, eq-eqb}
+use borrow.Author.Tests.{eq-eqb}
 use Rattle.calendar.specs.Days.{between}
 use Rattle.calendar.specs.ThermalYears.{isThermalYear, thermalMonthFirst}
 use Rattle.calendar.proofs.Ranges.{Within, within}
@@ -30,15 +30,9 @@ use Rattle.requests.specs.declared.products.Product.the-variants.{Annual
 use Rattle.requests.specs.declared.products.Request.{Request}
 use Rattle.requests.specs.Products.{kindOf, firstOf, lastOf, monthOk}
 use Rattle.requests.specs.RequestCapacity.{spanFirst, spanLast, daysAsked, spanPlace, requestNumber, amountGranted, requestAmount, grantOf, requestAfter}
-use Rattle.requests.proofs.RequestLaws.{granted-free}
-use Rattle.requests.proofs.AnswerLaws.{RequestFacts, facts, granted-le, granted-room, accepted-amount, accepted-after, refused-after}
+use Rattle.requests.proofs.AnswerLaws.{RequestFacts, facts, granted-le, granted-from, granted-room, accepted-amount, accepted-after, refused-after}
 
 -- ---- the line of a product
-kind-within : (k : Product) → Within 1 3 (kindOf k)
-kind-within Annual = record { from = omega arith; to = omega arith }
-kind-within (Month m) = record { from = omega arith; to = omega arith }
-kind-within (Day d) = record { from = omega arith; to = omega arith }
-
 opens-month : (y m : ℕ) → between 1 12 m ≡ true → isMonthFirst y (thermalMonthFirst y m) ≡ true
 unfolding isMonthFirst
 opens-month y m h =
@@ -68,14 +62,6 @@ module _ (s : State) (q : Request) (z : requestNumber s q ≡ 0) where
   span : SpanFacts (s .register .year) (q .arrival) (spanFirst (s .register) q) (spanLast (s .register) q)
   span = span-facts (s .register .year) (q .arrival) (spanFirst (s .register) q) (spanLast (s .register) q) (known .in-year)
 
-  -- more than nothing, and not more than was asked
-  some-granted : Within 1 (q .amount) granted
-  some-granted =
-      record {
-        from = ltb-true 0 granted (granted-free (s .register) (s .free) q (known .fields .amount .from) ∙ known .free);
-        to = granted-le s q;
-      }
-
   place-has : (k : ℕ) → k < daysAsked (s .register) q → granted ≤ getD (s .free) (spanPlace (s .register) q + k) 0
   unfolding amountGranted
   place-has k h = least-at (s .free) (spanPlace (s .register) q) (q .amount) (daysAsked (s .register) q) k h
@@ -84,8 +70,9 @@ module _ (s : State) (q : Request) (z : requestNumber s q ≡ 0) where
   place-of : (k : ℕ) → spanPlace (s .register) q + k ≡ entryOf (s .register .year) (q .point) (spanFirst (s .register) q + k)
   place-of k = omega (arith, span .fit .begins)
 
+  -- more than nothing, and not more than was asked
   pub granted-some : Within 1 (q .amount) (requestAmount s q)
-  granted-some = rw (accepted-amount s q z) some-granted
+  granted-some = rw (accepted-amount s q z) (record { from = granted-from s q z; to = granted-le s q })
 
   -- no day of the span has less free
   pub granted-least : (d : ℕ) → spanFirst (s .register) q ≤ d → d ≤ spanLast (s .register) q → requestAmount s q ≤ freeOn s (q .point) d
@@ -110,17 +97,15 @@ module _ (s : State) (q : Request) (z : requestNumber s q ≡ 0) where
   cut-due h = ⊎-elim (λ e. absurd (omega (arith, h, e))) (λ d. d) granted-or-day
 
   -- ---- what it does
-  pub request-bookable : Bookable s (grantOf (s .register) q (requestAmount s q))
+  request-bookable : Bookable s (grantOf (s .register) q (requestAmount s q))
   request-bookable =
       rw (accepted-amount s q z)
       (record {
         room = granted-room s q z;
         filed = known .filed;
         open-point = known .open-point;
-        kind = kind-within (q .product);
         month = month-line (s .register .year) (q .arrival) (q .product) (known .fields .month);
         last = line-ends (s .register .year) (q .arrival) (q .product) (grantOf (s .register) q granted) (span .year) (known .fields .month) refl refl;
-        some = some-granted .from;
         free = place-has;
       })
 

@@ -3,7 +3,7 @@
 use mathlib.Core.Path.{_≡_, refl, sym, ap, _∙_}
 use mathlib.Core.Bool.{Bool, true, false, _&&_}
 use mathlib.Core.List.{List}
-use Prim.Native.Nat.{ℕ, zero, suc, _+_, _≤_, _<_, min}
+use Prim.Native.Nat.{ℕ, zero, suc, _+_, _<_, min}
 use native.Mathlib.Omega.{arith}
 use lib.Dec.{ltb}
 use lib.ListN.{getD}
@@ -24,10 +24,12 @@ use Rattle.conferral.specs.declared.bookings.Grant.{Grant}
 use Rattle.conferral.specs.Bookings.{covers, isCovered}
 use Rattle.conferral.proofs.SpanLaws.{SpanFacts, span-facts}
 use Rattle.conferral.proofs.RoomLaws.{LimitFacts, covered-is}
+use Rattle.requests.specs.declared.products.Product.{Product}
+use Rattle.requests.specs.declared.products.Product.the-variants.{Annual, Month, Day}
 use Rattle.requests.specs.declared.products.Request.{Request}
 use Rattle.requests.specs.declared.requesting.Decision.{Decision}
 use Rattle.requests.specs.declared.requesting.Decision.the-variants.{Confer, Refuse}
-use Rattle.requests.specs.Products.{monthOk, isInYear}
+use Rattle.requests.specs.Products.{kindOf, monthOk, isInYear}
 use Rattle.requests.specs.RequestCapacity.{requestFields, spanFirst, spanLast, daysAsked, spanPlace, accountOf, grantFrom, grantOf, chargeAsked, isFree, freeThroughout, amountGranted}
 use Rattle.requests.specs.Steps.{spanAnswer, Decides, Spanned}
 
@@ -53,6 +55,12 @@ fields q h =
       month = and-right (a && b && d) m h;
     }
 
+-- the kind of its line
+kind-within : (k : Product) → Within 1 3 (kindOf k)
+kind-within Annual = record { from = omega arith; to = omega arith }
+kind-within (Month m) = record { from = omega arith; to = omega arith }
+kind-within (Day d) = record { from = omega arith; to = omega arith }
+
 -- ---- question 8
 module _ (r : Register) (q : Request) where
   pub spanned : (first last : ℕ) → spanAnswer (r .year) (q .arrival) (q .product) ≡ Days first last → Spanned r q first last
@@ -71,15 +79,15 @@ module _ (r : Register) (q : Request) where
 
   -- ---- question 11
   -- the grant of what is asked, or of less, is within limits
-  pub grant-limits : (amount : ℕ) → FieldFacts q → isInYear (r .year) (q .arrival) (q .product) ≡ true → amount ≤ mostAmount → LimitFacts (r .year) (grantOf r q amount)
+  pub grant-limits : (amount : ℕ) → FieldFacts q → isInYear (r .year) (q .arrival) (q .product) ≡ true → Within 1 mostAmount amount → LimitFacts (r .year) (grantOf r q amount)
   grant-limits amount w h m =
       let s = span-facts (r .year) (q .arrival) (spanFirst r q) (spanLast r q) h in
-      record { year = s .year; fit = s .fit; user = w .user; point = w .point; amount = m }
+      record { year = s .year; fit = s .fit; user = w .user; point = w .point; kind = kind-within (q .product); amount = m }
 
   -- so the code's test is the question
   pub asks-cover : (g : Grant) → FieldFacts q → isInYear (r .year) (q .arrival) (q .product) ≡ true → g ≡ grantOf r q (q .amount)
       → isCovered r g ≡ covers (accountOf r q) (chargeAsked r q)
-  asks-cover g w h e = ap (isCovered r) e ∙ covered-is r (grantOf r q (q .amount)) (grant-limits (q .amount) w h (w .amount .to))
+  asks-cover g w h e = ap (isCovered r) e ∙ covered-is r (grantOf r q (q .amount)) (grant-limits (q .amount) w h (w .amount))
 
 -- ---- question 12
 some-min : (a b : ℕ) → ltb 0 (min a b) ≡ (ltb 0 a && ltb 0 b)

@@ -4,11 +4,11 @@ use Prim.Native.Nat.{ℕ}
 use mathlib.Core.Bool.{Bool, true, not}
 use lib.Dec.{ltb}
 use Rattle.calendar.specs.Days.{between}
-use Rattle.calendar.specs.ThermalYears.{thermalLast, thermalMonthFirst, thermalMonthLast}
-use Rattle.calendar.specs.Deadlines.{nextFirst, inTimeOwn, inTimePreceding}
+use Rattle.calendar.specs.ThermalYears.{thermalMonthFirst, thermalMonthLast}
+use Rattle.calendar.specs.Deadlines.{inTimeOwn, inTimePreceding}
 use Rattle.register.specs.declared.points.Point.{Point}
 use Rattle.register.specs.Order.{isDirect}
-use Rattle.conferral.specs.Spans.{spanOk}
+use Rattle.conferral.specs.Spans.{annualFirst, annualLast, spanOk}
 use Rattle.requests.specs.declared.products.Product.{Product}
 use Rattle.requests.specs.declared.products.Product.the-variants.{Annual, Month, Day}
 
@@ -21,12 +21,12 @@ kindOf (Day d) = 3
 -- "An annual one spans the first of the month after arrival to the year's end.": the first and the last day in thermal year Y of
 -- what arrives on day a
 abbrev pub firstOf : ℕ → ℕ → Product → ℕ
-firstOf y a Annual = nextFirst a
+firstOf y a Annual = annualFirst a
 firstOf y a (Month m) = thermalMonthFirst y m
 firstOf y a (Day d) = d
 
 abbrev pub lastOf : ℕ → ℕ → Product → ℕ
-lastOf y a Annual = thermalLast y
+lastOf y a Annual = annualLast y
 lastOf y a (Month m) = thermalMonthLast y m
 lastOf y a (Day d) = d
 

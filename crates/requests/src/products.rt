@@ -14,7 +14,7 @@ pub enum Product {
     Day(u16),
 }
 
-// A request of a user at a point: an amount on each day of the product, which arrives on a gas-day.
+// A request of a user at a point, which arrives on a gas-day: an amount on each day of the product.
 pub struct Request {
     pub user: u8,
     pub point: u8,

@@ -1,4 +1,4 @@
-// Request.
+// The questions put to a request, in order, and the call.
 ghost use mathlib.Core.Path.{_≡_};
 ghost use mathlib.Core.Bool.{true};
 ghost use Rattle.register.specs.Registers.{state};
@@ -35,7 +35,7 @@ fn fields_within_limits(q: Request) -> bool
 }
 
 // The grant of an amount on each day from first to last.
-fn grant_of(q: Request, first: u16, last: u16, amount: u32) -> Grant
+fn grant_from(q: Request, first: u16, last: u16, amount: u32) -> Grant
     ensures { λ v. ⌜ v ≡ grantFrom q first last amount ⌝ }
 {
     let product = q.product;
@@ -54,11 +54,11 @@ fn decide_amount(r: Register, free: &[u32], q: Request, first: u16, last: u16) -
     requires { ⌜ (requestFields q ≡ true) × Spanned r q first last ⌝ }
     ensures { λ d. ⌜ Decides (amountQuestions r (now (free .entry)) q) r (now (free .entry)) q d ⌝ }
 {
-    let asked = grant_of(q, first, last, q.amount as u32);
+    let asked = grant_from(q, first, last, q.amount as u32);
     let places = last as usize + 1 - first as usize;
-    let place = register::entry_of(r.year, q.point, first);
+    let place = register::entry_in(r.year, q.point, first);
     let amount = register::least_free(free, place, places, asked.amount);
-    let granted = grant_of(q, first, last, amount);
+    let granted = grant_from(q, first, last, amount);
     // The guarantee has to cover what is asked, not only what is granted.
     if !conferral::is_covered(r, asked) {
         return Decision::Refuse(Refusal::NotCovered);

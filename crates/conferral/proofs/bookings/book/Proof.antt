@@ -33,8 +33,8 @@ cast-places-2 c = search needs
 sub-places : tie.Need-sub-places
 sub-places c = omega (arith, of-room (c .before .before) .limits .fit .ordered)
 
-entry-of-requires : tie.Need-entry-of-requires
-entry-of-requires c κs = search needs
+entry-in-requires : tie.Need-entry-in-requires
+entry-in-requires c κs = search needs
 
 take-free-requires : tie.Need-take-free-requires
 take-free-requires c κs = search needs
@@ -43,7 +43,7 @@ cast-next : tie.Need-cast-next
 cast-next c = search needs
 
 line-of-requires : tie.Need-line-of-requires
-line-of-requires c κs = of-room (c .before .before .before .before .before .before .before .before .before) .limits .amount
+line-of-requires c κs = of-room (c .before .before .before .before .before .before .before .before .before) .limits .amount .to
 
 write-line-requires : tie.Need-write-line-requires
 write-line-requires c κs = search needs
@@ -64,7 +64,7 @@ returns-2 c =
     let e = c .before .before .before .before .before .before .before .before .before .before .before .before .before .before in
     let st = e .before .before .before .before in
     booked-as (st .args .r) (st .args .free .now) (st .args .ledger .now) (st .args .g) (fits e) _ _ _ _ _
-    (t .before .entry-of .ensures)
+    (t .before .entry-in .ensures)
     (t .take-free .ensures)
     (w .before .line-of .ensures)
     (w .write-line .ensures)
@@ -80,7 +80,7 @@ book-spec =
     add-places
     cast-places-2
     sub-places
-    entry-of-requires
+    entry-in-requires
     take-free-requires
     cast-next
     line-of-requires

@@ -22,7 +22,7 @@ charge-at-requires : tie.Need-charge-at-requires
 charge-at-requires c κs =
     let st = c .before .before in
     let w = of-limits st in
-    (w .fit .ordered, (omega (arith, w .fit .ends, year-facts (st .args .t1 .year) (w .year) .last), (days-most (st .args .t1 .year) (st .args .g) w, w .amount)))
+    (w .fit .ordered, (omega (arith, w .fit .ends, year-facts (st .args .t1 .year) (w .year) .last), (days-most (st .args .t1 .year) (st .args .g) w, w .amount .to)))
 
 returns : tie.Need-returns
 returns c = c .charge-at .ensures

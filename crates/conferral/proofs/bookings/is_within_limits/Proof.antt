@@ -14,7 +14,7 @@ cast-result-2 c = search needs
 
 returns : tie.Need-returns
 unfolding withinLimits
-returns c = rw (c .before .before .before .is-span .ensures)
+returns c = rw (c .before .before .before .before .before .before .is-span .ensures)
 
 pub is-within-limits-spec : {M : Type 1} → statement M
 is-within-limits-spec = tie.close (tie.spec is-span-requires cast-result cast-result-2 returns)

@@ -7,11 +7,11 @@ use Rattle.register.proofs.reports.free_on.Statement.{statement}
 use Rattle.register.proofs.reports.free_on.Tie as tie
 
 -- the entry, which lies in the table
-entry : (c : tie.After-entry-of) → (let a = c .before .before .args in c .entry-of .result ≡ entryOf (a .year) (a .point) (a .day))
-entry c = let st = c .before .before in c .entry-of .ensures ∙ entry-in (st .args .year) (st .args .point) (st .args .day) (st .pre .0)
+entry : (c : tie.After-entry-in) → (let a = c .before .before .args in c .entry-in .result ≡ entryOf (a .year) (a .point) (a .day))
+entry c = let st = c .before .before in c .entry-in .ensures ∙ entry-in (st .args .year) (st .args .point) (st .args .day) (st .pre .0)
 
-entry-of-requires : tie.Need-entry-of-requires
-entry-of-requires c κs = search needs
+entry-in-requires : tie.Need-entry-in-requires
+entry-in-requires c κs = search needs
 
 mul-result : tie.Need-mul-result
 mul-result c = omega (arith, entry c, c .before .before .pre .1)
@@ -23,4 +23,4 @@ returns : tie.Need-returns
 returns c = rw (entry (c .before))
 
 pub free-on-spec : {M : Type 1} → statement M
-free-on-spec = tie.close (tie.spec entry-of-requires mul-result shared-slice-read-result returns)
+free-on-spec = tie.close (tie.spec entry-in-requires mul-result shared-slice-read-result returns)

@@ -31,8 +31,8 @@ granted : (c : tie.After-least-free) → c .least-free .result ≡ amount (c .be
 granted c =
     let st = c .before .before .before .before .before in
     c .least-free .ensures
-    ∙ ap (λ (g : Grant). leastOf (st .args .free .now) (c .before .entry-of .result) (spanDays (st .args .first) (st .args .last)) (g .amount)) (c .before .before .grant-of .ensures)
-    ∙ granted-is (st .args .r) (st .args .free .now) (st .args .q) (st .args .first) (st .args .last) _ (st .pre .1) (c .before .entry-of .ensures)
+    ∙ ap (λ (g : Grant). leastOf (st .args .free .now) (c .before .entry-in .result) (spanDays (st .args .first) (st .args .last)) (g .amount)) (c .before .before .grant-from .ensures)
+    ∙ granted-is (st .args .r) (st .args .free .now) (st .args .q) (st .args .first) (st .args .last) _ (st .pre .1) (c .before .entry-in .ensures)
 
 -- question 11, of the asked amount
 abbrev asks-cover-here : tie.Start → Bool
@@ -41,7 +41,7 @@ asks-cover-here c = covers (accountOf (c .args .r) (c .args .q)) (chargeAsked (c
 answers-cover : (c : tie.After-is-covered) → c .is-covered .result ≡ asks-cover-here (c .before .before .before .before .before .before .before)
 answers-cover c =
     let st = c .before .before .before .before .before .before .before in
-    let g = c .before .before .before .before .grant-of in
+    let g = c .before .before .before .before .grant-from in
     c .is-covered .ensures
     ∙ asks-cover (st .args .r) (st .args .q) (g .result) (of-fields st) (st .pre .1 .fits)
     (grant-is (st .args .r) (st .args .q) (st .args .first) (st .args .last) _ (st .args .q .amount) (g .result) (st .pre .1) (g .ensures) refl)
@@ -59,11 +59,11 @@ answers-free c = granted-free (c .args .r) (c .args .free .now) (c .args .q) (of
 free : (c : tie.Else2) → asks-free (c .before .before .before .before .before .before .before .before .before) ≡ true
 free c = let st = c .before .before .before .before .before .before .before .before .before in sym (answers-free st) ∙ lt-ltb 0 (amount st) (omega (arith, granted (c .before .before .before .before), c .if2 .left))
 
-cast-grant-of : tie.Need-cast-grant-of
-cast-grant-of c = omega (arith, of-fields (c .before .before) .amount .to)
+cast-grant-from : tie.Need-cast-grant-from
+cast-grant-from c = omega (arith, of-fields (c .before .before) .amount .to)
 
-grant-of-requires : tie.Need-grant-of-requires
-grant-of-requires c κs = search needs
+grant-from-requires : tie.Need-grant-from-requires
+grant-from-requires c κs = search needs
 
 add-places : tie.Need-add-places
 add-places c = search needs
@@ -71,14 +71,14 @@ add-places c = search needs
 sub-places : tie.Need-sub-places
 sub-places c = omega (arith, of-span (c .before .before .before) .fit .ordered)
 
-entry-of-requires : tie.Need-entry-of-requires
-entry-of-requires c κs = search needs
+entry-in-requires : tie.Need-entry-in-requires
+entry-in-requires c κs = search needs
 
 least-free-requires : tie.Need-least-free-requires
 least-free-requires c κs = search needs
 
-grant-of-requires-2 : tie.Need-grant-of-requires-2
-grant-of-requires-2 c κs = search needs
+grant-from-requires-2 : tie.Need-grant-from-requires-2
+grant-from-requires-2 c κs = search needs
 
 is-covered-requires : tie.Need-is-covered-requires
 is-covered-requires c κs = search needs
@@ -103,7 +103,7 @@ returns-4 : tie.Need-returns-4
 returns-4 c =
     let e = c .before .before in
     let st = e .before .before .before .before .before .before .before .before .before in
-    let g = e .before .before .before .grant-of2 in (
+    let g = e .before .before .before .grant-from2 in (
       rw (covered (e .before), free e, le-leb (st .args .r .lines + 1) lineCount (omega arith)),
       grant-is (st .args .r) (st .args .q) (st .args .first) (st .args .last) _ (amount st) (g .result) (st .pre .1) (g .ensures) (granted (e .before .before .before .before)),
     )
@@ -112,13 +112,13 @@ pub decide-amount-spec : {M : Type 1} → statement M
 decide-amount-spec =
     tie.close
     (tie.spec
-    cast-grant-of
-    grant-of-requires
+    cast-grant-from
+    grant-from-requires
     add-places
     sub-places
-    entry-of-requires
+    entry-in-requires
     least-free-requires
-    grant-of-requires-2
+    grant-from-requires-2
     is-covered-requires
     returns
     returns-2

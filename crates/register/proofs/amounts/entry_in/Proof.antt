@@ -9,8 +9,8 @@ use Rattle.register.proofs.CalendarLaws.{in-year, in-no-year}
 use Rattle.register.proofs.AmountLaws.{entry-in, entry-out}
 use native.Mathlib.Omega.{arith}
 use borrow.Author.Needs.{needs}
-use Rattle.register.proofs.amounts.entry_of.Statement.{statement}
-use Rattle.register.proofs.amounts.entry_of.Tie as tie
+use Rattle.register.proofs.amounts.entry_in.Statement.{statement}
+use Rattle.register.proofs.amounts.entry_in.Tie as tie
 
 -- this is the year's span
 span : (c : tie.After-known-told) → YearSpan (c .before .before .before .before .args .year) (c .before .span .given .0 .0) (c .before .span .given .0 .1 .0)
@@ -50,8 +50,8 @@ returns-3 c =
     let a = c .before .before .before .args in
     sym (entry-out (a .year) (a .point) (a .day) (in-no-year (a .year) (a .day) (no-year _ (sym (c .before .before .thermal-year .ensures) ∙ c .enum-told .given .1))))
 
-pub entry-of-spec : {M : Type 1} → statement M
-entry-of-spec =
+pub entry-in-spec : {M : Type 1} → statement M
+entry-in-spec =
     tie.close
     (tie.spec
     thermal-year-requires
