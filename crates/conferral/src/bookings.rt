@@ -53,7 +53,7 @@ fn grant_charge(r: Register, g: Grant) -> u64
 }
 
 // Whether a guarantee covers the commitment and a charge more.
-fn covers_charge(a: Account, charge: u64) -> bool
+pub fn covers_charge(a: Account, charge: u64) -> bool
     ensures { λ v. ⌜ v ≡ covers a charge ⌝ }
 {
     if a.guarantee < charge {

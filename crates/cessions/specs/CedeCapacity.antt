@@ -1,0 +1,151 @@
+-- Document 01, "The changing calls": cession.
+-- Assumes nothing.
+use Prim.Native.Nat.{ℕ, _+_, _-_}
+use mathlib.Core.Bool.{Bool, not, _&&_}
+use mathlib.Core.List.{List, [], _∷_}
+use lib.Dec.{leb, ltb, eqb}
+use lib.IntN.{ℤ, pos, negℤ}
+use Rattle.calendar.specs.Days.{between}
+use Rattle.calendar.specs.Deadlines.{inTimeOwn}
+use Rattle.register.specs.declared.points.Point.{Point}
+use Rattle.register.specs.declared.accounts.Account.{Account}
+use Rattle.register.specs.declared.ledger.Line.{Line}
+use Rattle.register.specs.declared.registers.Register.{Register}
+use Rattle.register.specs.Limits.{pointCount, userCount, mostAmount}
+use Rattle.register.specs.Registers.{State, state, pointAt, accountAt, withLines, withAccount}
+use Rattle.register.specs.Ledger.{withLine}
+use Rattle.register.specs.Amounts.{spanDays}
+use Rattle.register.specs.Charges.{charge, discharged}
+use Rattle.register.specs.Order.{isOpen, isOnFile, inOrder}
+use Rattle.register.specs.Answers.{numberOfRefusal, Question, _asks_, numberOf, leaves}
+use Rattle.conferral.specs.Spans.{annualFirst, annualLast, spanOk}
+use Rattle.conferral.specs.Bookings.{covers, linesLeft, withCharge}
+use Rattle.holdings.specs.declared.holdings.Holding.{Holding}
+use Rattle.holdings.specs.Holdings.{holdsThroughout}
+use Rattle.cessions.specs.declared.answers.Settlement.{Settlement}
+use Rattle.cessions.specs.declared.answers.Settlement.the-variants.{Ceded, Refused}
+use Rattle.cessions.specs.declared.ceding.Cession.{Cession}
+
+-- the number and the amount of an answer: "amount granted or ceded (else 0)"
+abbrev pub numberOfSettlement : Settlement → ℕ
+numberOfSettlement (Ceded a) = 0
+numberOfSettlement (Refused n) = numberOfRefusal n
+
+abbrev pub amountOfSettlement : Settlement → ℕ
+amountOfSettlement (Ceded a) = a
+amountOfSettlement (Refused n) = 0
+
+-- question 2: "point 0 to 31, users 0 to 63, giver not the receiver, amount [..] 1 to 9,999,999"
+abbrev pub cessionFields : Cession → Bool
+cessionFields c =
+    ltb (c .point) pointCount
+    && (ltb (c .giver) userCount && ltb (c .receiver) userCount)
+    && not (eqb (c .giver) (c .receiver))
+    && between 1 mostAmount (c .amount)
+
+-- the point and the two accounts that it names
+abbrev pub pointOf : Register → Cession → Point
+pointOf r c = pointAt (r .points) (c .point)
+
+abbrev pub giverOf : Register → Cession → Account
+giverOf r c = accountAt (r .accounts) (c .giver)
+
+abbrev pub receiverOf : Register → Cession → Account
+receiverOf r c = accountAt (r .accounts) (c .receiver)
+
+-- question 5: "Are the users named on file?"
+abbrev pub bothOnFile : Register → Cession → Bool
+bothOnFile r c = isOnFile (giverOf r c) && isOnFile (receiverOf r c)
+
+-- "from the first of the month after arrival to the year's end"
+abbrev pub spanFirst : Cession → ℕ
+spanFirst c = annualFirst (c .arrival)
+
+abbrev pub spanLast : Register → ℕ
+spanLast r = annualLast (r .year)
+
+-- question 8: "Does arrival lie from 1 September Y to 30 September Y+1, and the span in the year with a day left?"
+abbrev pub isInYear : Register → Cession → Bool
+isInYear r c = spanOk (r .year) (c .arrival) (spanFirst c) (spanLast r)
+
+-- question 9: "Cession: by the 16th working day of the arrival month."
+abbrev pub deadline : ℕ
+deadline = 16
+
+abbrev pub isInTime : Cession → Bool
+isInTime c = inTimeOwn (c .arrival) deadline
+
+-- question 10: "Does the giver hold the amount on every day of the span?"
+abbrev pub givenOf : Register → Cession → Holding
+givenOf r c =
+    record { user = c .giver; point = c .point; first = spanFirst c; last = spanLast r; amount = c .amount }
+
+abbrev pub isHeld : Register → List ℕ → Cession → Bool
+isHeld r ls c = holdsThroughout (r .year) (r .lines) ls (givenOf r c)
+
+-- "A charge is amount × days of the span × rate."
+abbrev pub chargeOf : Register → Cession → ℕ
+chargeOf r c = charge (c .amount) (spanDays (spanFirst c) (spanLast r)) (pointOf r c .rate)
+
+-- "In a cession 1 is also given after question 10, if the giver's commitment is below the charge.", then questions 11 "(cession:
+-- receiver)" and 13, "two for a cession"
+abbrev pub chargeQuestions : Register → Cession → List Question
+chargeQuestions r c =
+    1 asks leb (chargeOf r c) (giverOf r c .commitment)
+    ∷ 11 asks covers (receiverOf r c) (chargeOf r c)
+    ∷ 13 asks linesLeft r 2
+    ∷ []
+
+-- questions 8, 9 and 10, then these
+abbrev pub heldQuestions : Register → List ℕ → Cession → List Question
+heldQuestions r ls c = 10 asks isHeld r ls c ∷ chargeQuestions r c
+
+abbrev pub spanQuestions : Register → List ℕ → Cession → List Question
+spanQuestions r ls c = 8 asks isInYear r c ∷ 9 asks isInTime c ∷ heldQuestions r ls c
+
+-- questions 1, 2, 3 and 5, then these
+abbrev pub cessionQuestions : State → Cession → List Question
+cessionQuestions s c =
+    1 asks inOrder s
+    ∷ 2 asks cessionFields c
+    ∷ 3 asks isOpen (pointOf (s .register) c)
+    ∷ 5 asks bothOnFile (s .register) c
+    ∷ spanQuestions (s .register) (s .ledger) c
+
+unfoldable pub cessionNumber : State → Cession → ℕ
+cessionNumber s c = numberOf (cessionQuestions s c)
+
+-- what is ceded is the amount named
+unfoldable pub cessionAmount : State → Cession → ℕ
+cessionAmount s c = leaves (cessionNumber s c) (c .amount) 0
+
+-- "The charge moves between the commitments": out of the giver's, into the receiver's
+abbrev pub withDischarge : Register → ℕ → ℕ → Register
+withDischarge r u c = withAccount r u (discharged (accountAt (r .accounts) u) c)
+
+abbrev pub chargeMoved : Register → Cession → ℕ → Register
+chargeMoved r c n = withCharge (withDischarge r (c .giver) n) (c .receiver) n
+
+-- "two annual lines, minus then plus"
+abbrev pub annualLine : ℕ → ℕ → ℕ → ℤ → Line
+annualLine user point first amount =
+    record { user = user; point = point; kind = 1; first = first; amount = amount }
+
+abbrev pub minusLine : Cession → Line
+minusLine c = annualLine (c .giver) (c .point) (spanFirst c) (negℤ (pos (c .amount)))
+
+abbrev pub plusLine : Cession → Line
+plusLine c = annualLine (c .receiver) (c .point) (spanFirst c) (pos (c .amount))
+
+abbrev pub withTwoLines : List ℕ → ℕ → Line → Line → List ℕ
+withTwoLines ls n before after = withLine (withLine ls n before) (n + 1) after
+
+-- "giver to receiver [..] The charge moves between the commitments; two annual lines, minus then plus. Free amounts don't move."
+unfoldable pub ceded : State → Cession → State
+ceded s c =
+    state (withLines (chargeMoved (s .register) c (chargeOf (s .register) c)) (s .register .lines + 2))
+    (s .free)
+    (withTwoLines (s .ledger) (s .register .lines) (minusLine c) (plusLine c))
+
+unfoldable pub cessionAfter : State → Cession → State
+cessionAfter s c = leaves (cessionNumber s c) (ceded s c) s

@@ -1,0 +1,2 @@
+pub mod CedeCapacity
+pub mod Steps

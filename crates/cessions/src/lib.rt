@@ -1,0 +1,13 @@
+// The cession of transport capacity from one user to another, for the rest of the year.
+//
+// The call takes the register by value and gives it back with its answer; the free amounts and the ledger are lent. No function
+// that another crate can name has a `requires`. The meaning of each answer is in specs/.
+mod answers;
+mod ceding;
+
+pub use answers::Settled;
+pub use answers::Settlement;
+pub use answers::settlement_amount;
+pub use answers::settlement_number;
+pub use ceding::Cession;
+pub use ceding::cede_capacity;

@@ -1,0 +1,81 @@
+// A user's ledger lines at a point, gathered with the last day of each, so that the days of a span go around these lines only.
+ghost use mathlib.Core.Path.{_≡_};
+ghost use Prim.Native.Nat.{_≤_, _<_};
+ghost use lib.Signed.{mag};
+ghost use Rattle.calendar.specs.Days.{lastDay};
+ghost use Rattle.calendar.specs.Deadlines.{nextFirst};
+ghost use Rattle.register.specs.Limits.{lineCount};
+ghost use Rattle.holdings.specs.Steps.{isGathered, coverOf, coverOn, Gathers};
+use crate::ends::Bounds;
+use crate::ends::bounds_of;
+use crate::ends::line_end;
+use crate::holdings::Holding;
+use register::Line;
+
+// What a line adds, on each day from first to last.
+pub struct Cover {
+    pub first: u32,
+    pub last: u32,
+    pub amount: i32,
+}
+
+// The lines gathered, and how many they are.
+pub struct Covers {
+    pub lines: [Cover; 2048],
+    pub count: usize,
+}
+
+// Whether a line is the user's at the point. One that begins outside the year is left out: question 1 lets none pass.
+fn is_gathered(l: Line, h: Holding, b: Bounds) -> bool
+    ensures { λ v. ⌜ v ≡ isGathered h b l ⌝ }
+{
+    ((l.user == h.user as u32) & (l.point == h.point as u32))
+        & ((b.first <= l.first) & (l.first <= b.last))
+}
+
+fn cover_of(l: Line, last: u32) -> Cover
+    requires { ⌜ nextFirst (l .first) ≤ lastDay ⌝ }
+    ensures { λ v. ⌜ v ≡ coverOf last l ⌝ }
+{
+    let end = line_end(l, last);
+    Cover {
+        first: l.first,
+        last: end,
+        amount: l.amount,
+    }
+}
+
+// What a line adds on a day.
+pub(crate) fn cover_on(c: Cover, day: u32) -> i64
+    ensures { λ v. ⌜ (v ≡ coverOn day c) × (mag v < 2147483648) ⌝ }
+{
+    if (c.first <= day) & (day <= c.last) {
+        return c.amount as i64;
+    }
+    0
+}
+
+// Gathers the lines among the first n of the ledger.
+pub(crate) fn gather(year: u16, n: usize, ledger: &[u32], h: Holding) -> Covers
+    requires { ⌜ n ≤ lineCount ⌝ }
+    ensures { λ v. ⌜ Gathers year n (now (ledger .entry)) h v ⌝ }
+{
+    let bounds = bounds_of(year);
+    let none = Cover {
+        first: 0,
+        last: 0,
+        amount: 0,
+    };
+    let mut lines = [none; 2048];
+    let mut count: usize = 0;
+    let mut i: usize = 0;
+    while i < n {
+        let l = register::line_at(ledger, i);
+        if is_gathered(l, h, bounds) {
+            lines[count] = cover_of(l, bounds.last);
+            count += 1;
+        }
+        i += 1;
+    }
+    Covers { lines, count }
+}

@@ -1,0 +1,72 @@
+// Whether a user holds an amount on every day of a span, and else the first gas-day with too little.
+ghost use mathlib.Core.Path.{_≡_};
+ghost use Prim.Native.Nat.{_≤_, min};
+ghost use lib.ListN.{length};
+ghost use Rattle.register.specs.Limits.{lineCount};
+ghost use Rattle.register.specs.Amounts.{spanDays};
+ghost use Rattle.holdings.specs.Holdings.{firstShort, heldAnswer};
+ghost use Rattle.holdings.specs.Steps.{coverShort};
+use crate::gathering::Covers;
+use crate::gathering::cover_on;
+use crate::gathering::gather;
+
+// An amount that a user is to hold at a point, on each day from first to last.
+pub struct Holding {
+    pub user: u8,
+    pub point: u8,
+    pub first: u16,
+    pub last: u16,
+    pub amount: u32,
+}
+
+// Held on every day of the span, or the first gas-day with too little.
+pub enum Held {
+    Throughout,
+    ShortOn(u16),
+}
+
+// The first gas-day from first to last on which the lines gathered sum to less than the amount.
+fn short_day(covers: Covers, first: u16, last: u16, amount: u32) -> Held
+    requires { ⌜ (covers .count ≤ lineCount) × (length (covers .lines) ≡ lineCount) ⌝ }
+    ensures { λ v. ⌜ v ≡ firstShort (coverShort covers amount) (spanDays first last) first ⌝ }
+{
+    let mut day = first as u32;
+    let held = 'days: loop {
+        if (last as u32) < day {
+            break 'days Held::Throughout;
+        }
+        let mut sum: i64 = 0;
+        let mut k: usize = 0;
+        'lines: loop {
+            if covers.count <= k {
+                if sum < amount as i64 {
+                    break 'days Held::ShortOn(day as u16);
+                }
+                break 'lines;
+            }
+            let c = covers.lines[k];
+            sum += cover_on(c, day);
+            k += 1;
+        }
+        day += 1;
+    };
+    held
+}
+
+// How many lines are looked at: the ledger has no more.
+fn used_lines(lines: u16) -> usize
+    ensures { λ v. ⌜ v ≡ min lines lineCount ⌝ }
+{
+    if register::LINES < lines as usize {
+        return register::LINES;
+    }
+    lines as usize
+}
+
+// Question 10: does the user hold the amount on every day of the span, by the ledger's first `lines` lines in a thermal year?
+pub fn first_short_day(year: u16, lines: u16, ledger: &[u32], h: Holding) -> Held
+    ensures { λ v. ⌜ v ≡ heldAnswer year lines (now (ledger .entry)) h ⌝ }
+{
+    let covers = gather(year, used_lines(lines), ledger, h);
+    short_day(covers, h.first, h.last, h.amount)
+}
