@@ -1,0 +1,2 @@
+pub mod CessionLaws
+pub mod AnswerLaws

@@ -1,0 +1,45 @@
+use native.Mathlib.Omega.{arith}
+use borrow.Author.Needs.{needs}
+use Rattle.cessions.proofs.ceding.are_on_file.Statement.{statement}
+use Rattle.cessions.proofs.ceding.are_on_file.Tie as tie
+
+cast-giver : tie.Need-cast-giver
+cast-giver c = search needs
+
+mul-giver : tie.Need-mul-giver
+mul-giver c = search needs
+
+element-copy-out-giver : tie.Need-element-copy-out-giver
+element-copy-out-giver c = search needs
+
+cast-receiver : tie.Need-cast-receiver
+cast-receiver c = search needs
+
+mul-receiver : tie.Need-mul-receiver
+mul-receiver c = search needs
+
+element-copy-out-receiver : tie.Need-element-copy-out-receiver
+element-copy-out-receiver c = search needs
+
+is-on-file-requires : tie.Need-is-on-file-requires
+is-on-file-requires c κs = search needs
+
+is-on-file-requires-2 : tie.Need-is-on-file-requires-2
+is-on-file-requires-2 c κs = search needs
+
+returns : tie.Need-returns
+returns c = ?
+
+pub are-on-file-spec : {M : Type 1} → statement M
+are-on-file-spec =
+    tie.close
+    (tie.spec
+    cast-giver
+    mul-giver
+    element-copy-out-giver
+    cast-receiver
+    mul-receiver
+    element-copy-out-receiver
+    is-on-file-requires
+    is-on-file-requires-2
+    returns)

@@ -1,0 +1,24 @@
+use native.Mathlib.Omega.{arith}
+use borrow.Author.Needs.{needs}
+use Rattle.cessions.proofs.ceding.write_two_lines.Statement.{statement}
+use Rattle.cessions.proofs.ceding.write_two_lines.Tie as tie
+
+write-line-requires : tie.Need-write-line-requires
+write-line-requires c κs = search needs
+
+add-write-line : tie.Need-add-write-line
+add-write-line c = search needs
+
+write-line-requires-2 : tie.Need-write-line-requires-2
+write-line-requires-2 c κs = search needs
+
+same-length : tie.Need-same-length
+same-length c = search needs
+
+returns : tie.Need-returns
+returns c = ?
+
+pub write-two-lines-spec : {M : Type 1} → statement M
+write-two-lines-spec =
+    tie.close
+    (tie.spec write-line-requires add-write-line write-line-requires-2 same-length returns)
