@@ -3,13 +3,17 @@
 -- Assumes nothing.
 use mathlib.Core.Path.{_≡_, refl, sym, _∙_}
 use mathlib.Core.Bool.{true}
-use Prim.Native.Nat.{_+_, _≤_, _<_}
+use mathlib.Core.List.{List}
+use Prim.Native.Nat.{ℕ, _+_, _≤_, _<_}
 use native.Mathlib.Omega.{arith}
+use lib.IntN.{pos, negℤ}
 use borrow.Author.Tests.{ltb-true, leb-true, eqb-true}
 use Rattle.calendar.proofs.Ranges.{and-left, and-right}
 use Rattle.register.specs.declared.answers.Refusal.{Refusal}
+use Rattle.register.specs.declared.ledger.Line.{Line}
+use Rattle.register.specs.declared.registers.Register.{Register}
 use Rattle.register.specs.Limits.{lineCount}
-use Rattle.register.specs.Registers.{State}
+use Rattle.register.specs.Registers.{State, state, withLines}
 use Rattle.register.specs.Order.{isOnFile}
 use Rattle.register.specs.Answers.{numberOfRefusal, Passes}
 use Rattle.register.proofs.OrderFacts.{InOrder, ordered}
@@ -17,8 +21,8 @@ use Rattle.register.proofs.AnswerLaws.{passes, passed, refusal-number, leaves-n
 use Rattle.cessions.specs.declared.ceding.Cession.{Cession}
 use Rattle.cessions.specs.declared.ceding.Handover.{Handover}
 use Rattle.cessions.specs.declared.ceding.Decision.the-variants.{Cede, Refuse}
-use Rattle.cessions.specs.CedeCapacity.{pointOf, giverOf, receiverOf, isInYear, isInTime, isHeld, chargeOf, cessionQuestions, cessionNumber, cessionAmount, ceded, cessionAfter}
-use Rattle.cessions.specs.Steps.{Decides}
+use Rattle.cessions.specs.CedeCapacity.{pointOf, giverOf, receiverOf, isInYear, isInTime, isHeld, chargeOf, chargeMoved, annualLine, withTwoLines, cessionQuestions, cessionNumber, cessionAmount, ceded, cessionAfter}
+use Rattle.cessions.specs.Steps.{handoverOf, Decides}
 use Rattle.cessions.proofs.CessionLaws.{FieldFacts, fields}
 
 module _ (s : State) (c : Cession) where
@@ -74,11 +78,24 @@ module _ (s : State) (c : Cession) where
   unfolding cessionAfter
   accepted-after z = leaves-new (cessionNumber s c) (ceded s c) s z
 
+  pub decided-zero : (h : Handover) → Decides (cessionQuestions s c) (s .register) c (Cede h) → cessionNumber s c ≡ 0
+  unfolding cessionNumber
+  decided-zero h d = d .0
+
+  -- the register and the ledger as the code leaves them
+  pub ceded-as : (h : Handover) (minus plus : Line) (rv : Register) (m : List ℕ) → h ≡ handoverOf (s .register) c
+      → minus ≡ annualLine (c .giver) (c .point) (h .first) (negℤ (pos (c .amount)))
+      → plus ≡ annualLine (c .receiver) (c .point) (h .first) (pos (c .amount))
+      → m ≡ withTwoLines (s .ledger) (s .register .lines) minus plus
+      → rv ≡ withLines (chargeMoved (s .register) c (h .charge)) (s .register .lines + 2)
+      → state rv (s .free) m ≡ ceded s c
+  unfolding ceded
+  ceded-as h minus plus rv m eh less more written moved = rw (moved, written, less, more, eh)
+
   pub decided : (h : Handover) (t : State) → Decides (cessionQuestions s c) (s .register) c (Cede h) → t ≡ ceded s c
       → (0 ≡ cessionNumber s c) × ((c .amount ≡ cessionAmount s c) × (t ≡ cessionAfter s c))
-  unfolding cessionNumber
   decided h t d e =
-      let z : cessionNumber s c ≡ 0 = d .0 in
+      let z = decided-zero h d in
       (sym z, (sym (accepted-amount z), e ∙ sym (accepted-after z)))
 
   -- a refused cession leaves what there was, and cedes nothing

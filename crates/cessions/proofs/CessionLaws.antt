@@ -1,6 +1,6 @@
 -- Laws of the cession's questions: what the code's steps rest on.
 -- Assumes nothing.
-use mathlib.Core.Path.{_≡_, sym, _∙_}
+use mathlib.Core.Path.{_≡_, refl, sym, ap, _∙_}
 use mathlib.Core.Bool.{true, false, not, _&&_}
 use mathlib.Core.List.{List}
 use Prim.Native.Nat.{ℕ, _≤_, _<_}
@@ -28,11 +28,14 @@ use Rattle.conferral.specs.Spans.{arrives, annualAnswer}
 use Rattle.conferral.specs.Bookings.{committed}
 use Rattle.conferral.proofs.SpanLaws.{SpanFacts, span-facts, arrival-year}
 use Rattle.holdings.specs.declared.holdings.Holding.{Holding}
+use Rattle.holdings.specs.declared.holdings.Held.{Held}
+use Rattle.holdings.specs.Holdings.{heldAnswer, isThroughout}
+use Rattle.holdings.proofs.HeldLaws.{held-answer}
 use Rattle.cessions.specs.declared.ceding.Cession.{Cession}
 use Rattle.cessions.specs.declared.ceding.Decision.{Decision}
 use Rattle.cessions.specs.declared.ceding.Decision.the-variants.{Cede, Refuse}
-use Rattle.cessions.specs.CedeCapacity.{cessionFields, pointOf, giverOf, receiverOf, spanFirst, spanLast, isInYear, givenOf, chargeOf, chargeMoved}
-use Rattle.cessions.specs.Steps.{spanAnswer, Decides, Spanned, LinesIn}
+use Rattle.cessions.specs.CedeCapacity.{cessionFields, pointOf, giverOf, receiverOf, spanFirst, spanLast, isInYear, givenOf, isHeld, chargeOf, chargeMoved}
+use Rattle.cessions.specs.Steps.{spanAnswer, handoverOf, Decides, Spanned, LinesIn}
 
 -- ---- question 1
 -- it tells of the used lines that each begins in the year
@@ -111,9 +114,19 @@ module _ (r : Register) (c : Cession) where
       → h ≡ givenOf r c
   given-is first last w h e = e ∙ rw (w .begins, w .ends)
 
+  pub held-asks : (first last : ℕ) → Spanned r c first last → (ls : List ℕ) → LinesIn r ls → (v : Held)
+      → v ≡ heldAnswer (r .year) (r .lines) ls (record { user = c .giver; point = c .point; first = first; last = last; amount = c .amount })
+      → isThroughout v ≡ isHeld r ls c
+  held-asks first last w ls l v e =
+      ap isThroughout (e ∙ ap (heldAnswer (r .year) (r .lines) ls) (given-is first last w _ refl))
+      ∙ held-answer (r .year) (r .lines) ls (l .few) (l .firsts) (givenOf r c)
+
   -- ---- the charge
   pub charge-is : (first last : ℕ) → Spanned r c first last → charge (c .amount) (spanDays first last) (pointOf r c .rate) ≡ chargeOf r c
   charge-is first last w = rw (w .begins, w .ends)
+
+  pub handover-is : (first last n : ℕ) → Spanned r c first last → n ≡ chargeOf r c → record { first = first; charge = n } ≡ handoverOf r c
+  handover-is first last n w e = rw (w .begins, e)
 
   -- "The charge moves between the commitments": the receiver's account is what it was before the giver's is lowered
   pub moved-as : (n : ℕ) (lowered raised : Account) → FieldFacts c → lowered ≡ discharged (giverOf r c) n → raised ≡ committed (receiverOf r c) n

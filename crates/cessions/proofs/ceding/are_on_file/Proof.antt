@@ -1,3 +1,6 @@
+use mathlib.Core.Path.{ap₂}
+use mathlib.Core.Bool.{_&&_}
+use Rattle.cessions.proofs.CessionLaws.{fields}
 use native.Mathlib.Omega.{arith}
 use borrow.Author.Needs.{needs}
 use Rattle.cessions.proofs.ceding.are_on_file.Statement.{statement}
@@ -10,7 +13,7 @@ mul-giver : tie.Need-mul-giver
 mul-giver c = search needs
 
 element-copy-out-giver : tie.Need-element-copy-out-giver
-element-copy-out-giver c = search needs
+element-copy-out-giver c = fields (c .before .args .c) (c .before .pre) .giver
 
 cast-receiver : tie.Need-cast-receiver
 cast-receiver c = search needs
@@ -19,7 +22,7 @@ mul-receiver : tie.Need-mul-receiver
 mul-receiver c = search needs
 
 element-copy-out-receiver : tie.Need-element-copy-out-receiver
-element-copy-out-receiver c = search needs
+element-copy-out-receiver c = fields (c .before .before .before .args .c) (c .before .before .before .pre) .receiver
 
 is-on-file-requires : tie.Need-is-on-file-requires
 is-on-file-requires c κs = search needs
@@ -28,7 +31,7 @@ is-on-file-requires-2 : tie.Need-is-on-file-requires-2
 is-on-file-requires-2 c κs = search needs
 
 returns : tie.Need-returns
-returns c = ?
+returns c = ap₂ _&&_ (c .before .is-on-file .ensures) (c .is-on-file2 .ensures)
 
 pub are-on-file-spec : {M : Type 1} → statement M
 are-on-file-spec =

@@ -1,3 +1,7 @@
+use mathlib.Core.Path.{ap, _∙_}
+use mathlib.Core.List.{List}
+use Prim.Native.Nat.{ℕ, _+_}
+use Rattle.register.specs.Ledger.{withLine}
 use native.Mathlib.Omega.{arith}
 use borrow.Author.Needs.{needs}
 use Rattle.cessions.proofs.ceding.write_two_lines.Statement.{statement}
@@ -16,7 +20,11 @@ same-length : tie.Need-same-length
 same-length c = search needs
 
 returns : tie.Need-returns
-returns c = ?
+returns c =
+    let w = c .before .before in
+    let v = w .before .before .before .before in
+    let a = v .before .before .before .args in
+    w .write-line2 .ensures ∙ ap (λ (ls : List ℕ). withLine ls (a .n + 1) (a .after)) (v .write-line .ensures)
 
 pub write-two-lines-spec : {M : Type 1} → statement M
 write-two-lines-spec =
