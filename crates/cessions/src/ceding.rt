@@ -2,7 +2,6 @@
 ghost use mathlib.Core.Path.{_≡_};
 ghost use mathlib.Core.Bool.{true};
 ghost use Prim.Native.Nat.{_≤_, _<_, _+_};
-ghost use lib.ListN.{length};
 ghost use Rattle.calendar.specs.Days.{lastDay};
 ghost use Rattle.register.specs.Limits.{lineCount, rowLength, mostAmount, mostGuarantee};
 ghost use Rattle.register.specs.Registers.{state, withLines};

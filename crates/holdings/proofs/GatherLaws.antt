@@ -5,7 +5,7 @@ use mathlib.Core.Bool.{Bool, true, false, cond, _&&_, true≢false}
 use mathlib.Core.List.{List}
 use Prim.Native.Nat.{ℕ, _+_, _≤_, _<_}
 use native.Mathlib.Omega.{arith}
-use lib.IntN.{ℤ, pos, _+ℤ_, +ℤ-idr}
+use lib.IntN.{pos, _+ℤ_, +ℤ-idr}
 use lib.ListN.{set, length}
 use lib.Seq.{getD-set-same, getD-set-other}
 use Rattle.calendar.specs.Days.{lastDay, between}

@@ -20,7 +20,7 @@ use Rattle.register.proofs.TestLaws.{all-none, all-same}
 use Rattle.holdings.specs.declared.holdings.Holding.{Holding}
 use Rattle.holdings.specs.declared.holdings.Held.{Held}
 use Rattle.holdings.specs.declared.holdings.Held.the-variants.{Throughout, ShortOn}
-use Rattle.holdings.specs.Holdings.{signedSum, partAt, partIn, heldOn, heldIn, shortIn, tooLittle, holdsOn, holdsThroughout, firstShort, heldAnswer, isThroughout}
+use Rattle.holdings.specs.Holdings.{signedSum, partAt, partIn, heldOn, heldIn, shortIn, tooLittle, holdsThroughout, firstShort, heldAnswer, isThroughout}
 use Rattle.holdings.specs.declared.gathering.Covers.{Covers}
 use Rattle.holdings.specs.Steps.{Gathers, coverShort}
 use Rattle.holdings.proofs.SumLaws.{sum-same}

@@ -1,6 +1,5 @@
 use mathlib.Core.Path.{sym, ap, _∙_}
 use Rattle.holdings.specs.Holdings.{shortDay}
-use native.Mathlib.Omega.{arith}
 use borrow.Author.Needs.{needs}
 use Rattle.host.proofs.ylgrandi_first_short_day.Statement.{statement}
 use Rattle.host.proofs.ylgrandi_first_short_day.Tie as tie

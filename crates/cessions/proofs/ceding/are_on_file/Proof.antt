@@ -1,7 +1,6 @@
 use mathlib.Core.Path.{ap₂}
 use mathlib.Core.Bool.{_&&_}
 use Rattle.cessions.proofs.CessionLaws.{fields}
-use native.Mathlib.Omega.{arith}
 use borrow.Author.Needs.{needs}
 use Rattle.cessions.proofs.ceding.are_on_file.Statement.{statement}
 use Rattle.cessions.proofs.ceding.are_on_file.Tie as tie

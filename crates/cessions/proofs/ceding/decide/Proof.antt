@@ -5,7 +5,6 @@ use Rattle.register.specs.Registers.{State, state}
 use Rattle.register.specs.Order.{isOpen, inOrder}
 use Rattle.cessions.specs.CedeCapacity.{cessionFields, pointOf, spanQuestions, cessionQuestions}
 use Rattle.cessions.proofs.CessionLaws.{lines-in, fields, decides-too}
-use native.Mathlib.Omega.{arith}
 use borrow.Author.Needs.{needs}
 use Rattle.cessions.proofs.ceding.decide.Statement.{statement}
 use Rattle.cessions.proofs.ceding.decide.Tie as tie

@@ -5,7 +5,6 @@ use Rattle.conferral.specs.Spans.{spanFits}
 use Rattle.cessions.specs.CedeCapacity.{spanFirst, spanLast, heldQuestions, spanQuestions}
 use Rattle.cessions.specs.Steps.{Spanned}
 use Rattle.cessions.proofs.CessionLaws.{spanned, no-span, decides-too}
-use native.Mathlib.Omega.{arith}
 use borrow.Author.Needs.{needs}
 use Rattle.cessions.proofs.ceding.decide_span.Statement.{statement}
 use Rattle.cessions.proofs.ceding.decide_span.Tie as tie

@@ -2,7 +2,6 @@ use mathlib.Core.Path.{refl, ap, _∙_}
 use Rattle.conferral.specs.Spans.{isTimely}
 use Rattle.conferral.proofs.SpanLaws.{timely-own}
 use Rattle.cessions.specs.CedeCapacity.{deadline}
-use native.Mathlib.Omega.{arith}
 use borrow.Author.Needs.{needs}
 use Rattle.cessions.proofs.ceding.is_in_time.Statement.{statement}
 use Rattle.cessions.proofs.ceding.is_in_time.Tie as tie

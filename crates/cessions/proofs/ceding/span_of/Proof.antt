@@ -1,7 +1,6 @@
 use mathlib.Core.Path.{sym, _∙_}
 use borrow.Author.Tests.{not-true, not-false}
 use Rattle.cessions.proofs.CessionLaws.{no-arrival, arrived-span}
-use native.Mathlib.Omega.{arith}
 use borrow.Author.Needs.{needs}
 use Rattle.cessions.proofs.ceding.span_of.Statement.{statement}
 use Rattle.cessions.proofs.ceding.span_of.Tie as tie

@@ -2,7 +2,6 @@ use mathlib.Core.Path.{ap, _∙_}
 use mathlib.Core.List.{List}
 use Prim.Native.Nat.{ℕ, _+_}
 use Rattle.register.specs.Ledger.{withLine}
-use native.Mathlib.Omega.{arith}
 use borrow.Author.Needs.{needs}
 use Rattle.cessions.proofs.ceding.write_two_lines.Statement.{statement}
 use Rattle.cessions.proofs.ceding.write_two_lines.Tie as tie

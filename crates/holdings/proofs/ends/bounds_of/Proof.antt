@@ -1,6 +1,5 @@
 use mathlib.Core.Path.{sym, _∙_}
 use Rattle.calendar.proofs.SpanLaws.{year-span, no-year}
-use native.Mathlib.Omega.{arith}
 use borrow.Author.Needs.{needs}
 use Rattle.holdings.proofs.ends.bounds_of.Statement.{statement}
 use Rattle.holdings.proofs.ends.bounds_of.Tie as tie

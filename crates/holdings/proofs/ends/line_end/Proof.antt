@@ -1,11 +1,12 @@
-use borrow.Author.Tests.{eq-eqb, ne-eqb}
+use mathlib.Core.Path.{_≡_}
 use native.Mathlib.Omega.{arith}
+use borrow.Author.Tests.{eq-eqb, ne-eqb}
 use borrow.Author.Needs.{needs}
 use Rattle.holdings.proofs.ends.line_end.Statement.{statement}
 use Rattle.holdings.proofs.ends.line_end.Tie as tie
 
 returns : tie.Need-returns
-returns c = rw (eq-eqb _ _ (c .if1 .taken))
+returns c = let annual : c .before .before .args .l .kind ≡ 1 = omega arith in rw (eq-eqb _ _ annual)
 
 month-end-requires : tie.Need-month-end-requires
 month-end-requires c κs = search needs

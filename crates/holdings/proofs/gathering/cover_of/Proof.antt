@@ -2,7 +2,6 @@ use mathlib.Core.Path.{_≡_}
 use mir.Syntax.{w32}
 use mir.Val.{toZ, ofZ}
 use mir.Facts.{toZ-ofZ}
-use native.Mathlib.Omega.{arith}
 use borrow.Author.Needs.{needs}
 use Rattle.holdings.proofs.gathering.cover_of.Statement.{statement}
 use Rattle.holdings.proofs.gathering.cover_of.Tie as tie

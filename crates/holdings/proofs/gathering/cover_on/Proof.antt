@@ -1,10 +1,11 @@
-use mathlib.Core.Path.{ap, _∙_}
+use mathlib.Core.Path.{_≡_, ap, _∙_}
+use mathlib.Core.Bool.{true}
 use lib.IntN.{ℤ}
 use mir.Syntax.{w32, w64}
 use mir.Val.{SFits, toZ, ofZ}
 use mir.Facts.{toZ-ofZ, sfits-widen}
+use Rattle.calendar.specs.Days.{between}
 use native.Mathlib.Omega.{arith}
-use borrow.Author.Needs.{needs}
 use Rattle.holdings.proofs.gathering.cover_on.Statement.{statement}
 use Rattle.holdings.proofs.gathering.cover_on.Tie as tie
 
@@ -19,7 +20,9 @@ returns : tie.Need-returns
 returns c =
     let f = fits c in
     let e = ap (λ (z : ℤ). toZ w64 (ofZ w64 z)) (toZ-ofZ f) ∙ toZ-ofZ (sfits-widen tt f) in
-    (e ∙ rw (c .before .before .if1 .taken), rw e (f .sfits))
+    let a = c .before .before .before .before .before .args in
+    let on-it : between (a .c .first) (a .c .last) (a .day) ≡ true = c .before .before .if1 .taken in
+    (e ∙ rw on-it, rw e (f .sfits))
 
 returns-2 : tie.Need-returns-2
 returns-2 c = (rw (c .if1 .left), omega arith)

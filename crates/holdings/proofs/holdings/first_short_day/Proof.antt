@@ -1,6 +1,5 @@
 use mathlib.Core.Path.{_∙_}
 use Rattle.holdings.proofs.HeldLaws.{gathered-answer}
-use native.Mathlib.Omega.{arith}
 use borrow.Author.Needs.{needs}
 use Rattle.holdings.proofs.holdings.first_short_day.Statement.{statement}
 use Rattle.holdings.proofs.holdings.first_short_day.Tie as tie

@@ -1,0 +1,16 @@
+use mathlib.Core.Path.{refl}
+use borrow.Author.Needs.{needs}
+use Rattle.holdings.proofs.gathering.is_gathered.Statement.{statement}
+use Rattle.holdings.proofs.gathering.is_gathered.Tie as tie
+
+cast-result : tie.Need-cast-result
+cast-result c = search needs
+
+cast-result-2 : tie.Need-cast-result-2
+cast-result-2 c = search needs
+
+returns : tie.Need-returns
+returns c = refl
+
+pub is-gathered-spec : {M : Type 1} → statement M
+is-gathered-spec = tie.close (tie.spec cast-result cast-result-2 returns)
