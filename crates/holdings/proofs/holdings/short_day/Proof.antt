@@ -95,7 +95,7 @@ days-again : tie.Need-days-again Inv-lines μ-lines Inv-days μ-days
 days-again c = c .before .before .before .before .days .inv ∙ first-miss _ _ _ (search needs) (sym (test (c .before)) ∙ c .if3 .left)
 
 returns : tie.Need-returns Inv-lines μ-lines Inv-days μ-days
-returns c = sym (c .before .days .inv ∙ first-none _ _ _ (c .if1 .taken))
+returns c = let past : c .before .before .args .last < c .before .days .day = omega arith in sym (c .before .days .inv ∙ first-none _ _ _ past)
 
 returns-2 : tie.Need-returns-2 Inv-lines μ-lines Inv-days μ-days
 returns-2 c = sym (c .before .before .before .before .days .inv ∙ first-hit _ _ _ (search needs) (sym (test (c .before)) ∙ c .if3 .taken))
