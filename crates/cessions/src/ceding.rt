@@ -4,7 +4,7 @@ ghost use mathlib.Core.Bool.{true};
 ghost use Prim.Native.Nat.{_≤_, _<_, _+_};
 ghost use lib.ListN.{length};
 ghost use Rattle.calendar.specs.Days.{lastDay};
-ghost use Rattle.register.specs.Limits.{userCount, lineCount, rowLength, mostAmount};
+ghost use Rattle.register.specs.Limits.{lineCount, rowLength, mostAmount, mostGuarantee};
 ghost use Rattle.register.specs.Registers.{state, withLines};
 ghost use Rattle.register.specs.Amounts.{spanDays};
 ghost use Rattle.register.specs.Charges.{charge};
@@ -186,7 +186,7 @@ fn decide(r: Register, free: &[u32], ledger: &[u32], c: Cession) -> Decision
 
 // The register with a charge moved from the commitment of the giver to that of the receiver, and two lines more.
 fn moved_register(r: Register, c: Cession, charge: u64) -> Register
-    requires { ⌜ (cessionFields c ≡ true) × ((covers (receiverOf r c) charge ≡ true) × (r .lines + 2 ≤ lineCount)) ⌝ }
+    requires { ⌜ (cessionFields c ≡ true) × ((receiverOf r c .guarantee ≤ mostGuarantee) × ((covers (receiverOf r c) charge ≡ true) × (r .lines + 2 ≤ lineCount))) ⌝ }
     ensures { λ v. ⌜ v ≡ withLines (chargeMoved r c charge) (r .lines + 2) ⌝ }
 {
     let giver = r.accounts[c.giver as usize];

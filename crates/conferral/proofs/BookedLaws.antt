@@ -66,14 +66,14 @@ pub record BookedIn (s : State) (g : Grant) (t : State) : Type 0 where
   pub sound : Sound t
 
 -- the amount of a grant fits a line, and is in order there
-amount-fits : (n : ℕ) → n ≤ mostAmount → SFits w32 (pos n)
+pub amount-fits : (n : ℕ) → n ≤ mostAmount → SFits w32 (pos n)
 amount-fits n h = record { sfits = omega arith }
 
-amount-ok : (n : ℕ) → 1 ≤ n → n ≤ mostAmount → amountOk (pos n) ≡ true
+pub amount-ok : (n : ℕ) → 1 ≤ n → n ≤ mostAmount → amountOk (pos n) ≡ true
 amount-ok n a b = is-between 1 mostAmount n a b
 
 -- one line written: a property of it and of the others
-line-keeps : (P : Line → Type 0) (ls : List ℕ) (n : ℕ) (l : Line) (i : ℕ) → lineAt (withLine ls n l) n ≡ l → P l → ((i ≡ n → ⊥) → P (lineAt ls i)) → P (lineAt (withLine ls n l) i)
+pub line-keeps : (P : Line → Type 0) (ls : List ℕ) (n : ℕ) (l : Line) (i : ℕ) → lineAt (withLine ls n l) n ≡ l → P l → ((i ≡ n → ⊥) → P (lineAt ls i)) → P (lineAt (withLine ls n l) i)
 line-keeps P ls n l i back new old = go (ℕ-discrete i n)
   where
     go : Dec (i ≡ n) → P (lineAt (withLine ls n l) i)

@@ -78,3 +78,8 @@ heldAnswer y n ls h = firstShort (shortIn y n ls h) (spanDays (h .first) (h .las
 abbrev pub isThroughout : Held → Bool
 isThroughout Throughout = true
 isThroughout (ShortOn d) = false
+
+-- the day as a number for a host; where there is none it is 65,536, which no gas-day has
+abbrev pub shortDay : Held → ℕ
+shortDay Throughout = 65536
+shortDay (ShortOn d) = d

@@ -11,6 +11,7 @@ use crate::gathering::cover_on;
 use crate::gathering::gather;
 
 // An amount that a user is to hold at a point, on each day from first to last.
+#[repr(C)]
 pub struct Holding {
     pub user: u8,
     pub point: u8,

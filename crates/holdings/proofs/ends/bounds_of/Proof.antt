@@ -1,38 +1,32 @@
+use mathlib.Core.Path.{sym, _∙_}
+use Rattle.calendar.proofs.SpanLaws.{year-span, no-year}
 use native.Mathlib.Omega.{arith}
 use borrow.Author.Needs.{needs}
 use Rattle.holdings.proofs.ends.bounds_of.Statement.{statement}
 use Rattle.holdings.proofs.ends.bounds_of.Tie as tie
-use Rattle.holdings.proofs.ends.bounds_of.Reads as reads
-use Rattle.holdings.proofs.ends.bounds_of.Lts as lts
-use Rattle.calendar.proofs.thermal_year.Reads as thermal-year-reads
 
--- src/ends.rt:21:9
 thermal-year-requires : tie.Need-thermal-year-requires
 thermal-year-requires c κs = search needs
 
--- src/ends.rt:23:20
 enum-known-span : tie.Need-enum-known-span
 enum-known-span c = search needs
 
--- src/ends.rt:24:20
 cast-t6 : tie.Need-cast-t6
 cast-t6 c = search needs
 
--- src/ends.rt:25:19
 cast-t7 : tie.Need-cast-t7
 cast-t7 c = search needs
 
--- src/ends.rt:27:34
 enum-told : tie.Need-enum-told
 enum-told c = search needs
 
--- src/ends.rt:18:1
 returns : tie.Need-returns
-returns c = ?
+returns c =
+    let s = year-span _ _ _ (sym (c .before .before .before .thermal-year .ensures) ∙ c .before .span .given .1) in
+    rw (s .year, s .begins, s .ends)
 
--- src/ends.rt:18:1
 returns-2 : tie.Need-returns-2
-returns-2 c = ?
+returns-2 c = rw (no-year _ (sym (c .before .before .thermal-year .ensures) ∙ c .enum-told .given .1))
 
 pub bounds-of-spec : {M : Type 1} → statement M
 bounds-of-spec =

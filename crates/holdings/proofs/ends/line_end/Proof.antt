@@ -1,26 +1,20 @@
+use borrow.Author.Tests.{eq-eqb, ne-eqb}
 use native.Mathlib.Omega.{arith}
 use borrow.Author.Needs.{needs}
 use Rattle.holdings.proofs.ends.line_end.Statement.{statement}
 use Rattle.holdings.proofs.ends.line_end.Tie as tie
-use Rattle.holdings.proofs.ends.line_end.Reads as reads
-use Rattle.holdings.proofs.ends.line_end.Lts as lts
-use Rattle.holdings.proofs.ends.month_end.Reads as month-end-reads
 
--- src/ends.rt:50:9
 returns : tie.Need-returns
-returns c = ?
+returns c = rw (eq-eqb _ _ (c .if1 .taken))
 
--- src/ends.rt:53:9
 month-end-requires : tie.Need-month-end-requires
 month-end-requires c κs = search needs
 
--- src/ends.rt:53:9
 returns-2 : tie.Need-returns-2
-returns-2 c = ?
+returns-2 c = rw (ne-eqb _ _ (c .before .before .before .if1 .left), eq-eqb _ _ (c .before .if2 .taken)) (c .month-end .ensures)
 
--- src/ends.rt:45:1
 returns-3 : tie.Need-returns-3
-returns-3 c = ?
+returns-3 c = rw (ne-eqb _ _ (c .before .before .if1 .left), ne-eqb _ _ (c .if2 .left))
 
 pub line-end-spec : {M : Type 1} → statement M
 line-end-spec = tie.close (tie.spec returns month-end-requires returns-2 returns-3)

@@ -1,42 +1,41 @@
+use mathlib.Core.Path.{_≡_, sym, _∙_}
+use Rattle.calendar.specs.Deadlines.{nextFirst}
+use Rattle.calendar.proofs.DeadlineLaws.{before-next}
+use Rattle.holdings.proofs.EndLaws.{next-day, next-there}
 use native.Mathlib.Omega.{arith}
 use borrow.Author.Needs.{needs}
 use Rattle.holdings.proofs.ends.month_end.Statement.{statement}
 use Rattle.holdings.proofs.ends.month_end.Tie as tie
-use Rattle.holdings.proofs.ends.month_end.Reads as reads
-use Rattle.holdings.proofs.ends.month_end.Lts as lts
-use Rattle.calendar.proofs.next_first.Reads as next-first-reads
 
--- src/ends.rt:36:37
 cast-next-first : tie.Need-cast-next-first
-cast-next-first c = search needs
+cast-next-first c = omega (arith, before-next (c .args .day), c .pre)
 
--- src/ends.rt:36:9
 next-first-requires : tie.Need-next-first-requires
 next-first-requires c κs = search needs
 
--- src/ends.rt:38:21
 enum-known-next : tie.Need-enum-known-next
 enum-known-next c = search needs
 
--- src/ends.rt:38:32
-sub-result : tie.Need-sub-result
-sub-result c = search needs
+-- the first of the next month
+next-is : (c : tie.After-known-told) → c .before .next .given .0 .0 ≡ nextFirst (c .before .before .before .before .args .day)
+next-is c =
+    let st = c .before .before .before .before in
+    next-day (st .args .day) (st .pre) _ (sym (c .before .before .before .next-first .ensures) ∙ c .before .next .given .1)
 
--- src/ends.rt:38:31
+sub-result : tie.Need-sub-result
+sub-result c = omega (arith, next-is c, before-next (c .before .before .before .before .args .day))
+
 cast-result : tie.Need-cast-result
 cast-result c = search needs
 
--- src/ends.rt:40:36
 enum-told : tie.Need-enum-told
 enum-told c = search needs
 
--- src/ends.rt:32:1
 returns : tie.Need-returns
-returns c = ?
+returns c = omega (arith, next-is c)
 
--- src/ends.rt:32:1
 returns-2 : tie.Need-returns-2
-returns-2 c = ?
+returns-2 c = absurd (next-there (c .before .before .before .args .day) (c .before .before .before .pre) (sym (c .before .before .next-first .ensures) ∙ c .enum-told .given .1))
 
 pub month-end-spec : {M : Type 1} → statement M
 month-end-spec =

@@ -1,67 +1,91 @@
+use mathlib.Core.Path.{_≡_, refl, sym, ap, _∙_}
+use mathlib.Core.Logic.{⊎-elim}
+use Prim.Native.Nat.{ℕ, _-_, _≤_, _<_}
+use lib.ListN.{length, length-set}
+use Rattle.register.specs.Limits.{lineCount}
+use Rattle.holdings.specs.Holdings.{signedSum, partIn}
+use Rattle.holdings.specs.Steps.{coverAt}
+use Rattle.holdings.proofs.SumLaws.{sum-none}
+use Rattle.holdings.proofs.GatherLaws.{gathered-inside, one-gathered, one-left}
 use native.Mathlib.Omega.{arith}
 use borrow.Author.Needs.{needs}
 use Rattle.holdings.proofs.gathering.gather.Statement.{statement}
 use Rattle.holdings.proofs.gathering.gather.Tie as tie
-use Rattle.holdings.proofs.gathering.gather.Reads as reads
-use Rattle.holdings.proofs.gathering.gather.Lts as lts
-use Rattle.holdings.proofs.ends.bounds_of.Reads as bounds-of-reads
-use Rattle.holdings.proofs.gathering.cover_of.Reads as cover-of-reads
-use Rattle.holdings.proofs.gathering.is_gathered.Reads as is-gathered-reads
-use Rattle.register.proofs.line_at.Reads as line-at-reads
 
 abbrev Inv-loop : tie.InvT-loop
-Inv-loop year n ledger h bounds lines₀ count₀ i₀ lines count i = ?
+Inv-loop year n ledger h bounds lines₀ count₀ i₀ lines count i =
+    (count ≤ i) × (i ≤ n) × (length lines ≡ lineCount) × ((d : ℕ) → signedSum i (partIn year ledger (h .user) (h .point) d) ≡ signedSum count (coverAt lines d))
 
 abbrev μ-loop : tie.MeasureT-loop
-μ-loop year n ledger h bounds lines₀ count₀ i₀ lines count i = ?
+μ-loop year n ledger h bounds lines₀ count₀ i₀ lines count i = n - i
 
--- src/gathering.rt:63:9
 bounds-of-requires : tie.Need-bounds-of-requires Inv-loop μ-loop
 bounds-of-requires c κs = search needs
 
--- src/gathering.rt:72:5
 loop-holds : tie.Need-loop-holds Inv-loop μ-loop
-loop-holds c = ?
+loop-holds c = (omega arith, omega arith, refl, λ d. sum-none _ ∙ sym (sum-none _))
 
--- src/gathering.rt:73:13
 line-at-requires : tie.Need-line-at-requires Inv-loop μ-loop
 line-at-requires c κs = search needs
 
--- src/gathering.rt:74:12
 is-gathered-requires : tie.Need-is-gathered-requires Inv-loop μ-loop
 is-gathered-requires c κs = search needs
 
--- src/gathering.rt:75:28
 cover-of-requires : tie.Need-cover-of-requires Inv-loop μ-loop
-cover-of-requires c κs = search needs
+cover-of-requires c κs =
+    let st = c .before .before .before .before .before .before .before in
+    gathered-inside (st .args .year) (st .args .h) (c .before .before .before .before .before .bounds-of .result) (c .before .before .line-at .result) (c .before .before .before .before .before .bounds-of .ensures) (sym (c .before .is-gathered .ensures) ∙ c .if1 .taken)
 
--- src/gathering.rt:75:13
 mul-lines : tie.Need-mul-lines Inv-loop μ-loop
 mul-lines c = search needs
 
--- src/gathering.rt:75:13
 array-set-from-lines : tie.Need-array-set-from-lines Inv-loop μ-loop
 array-set-from-lines c = search needs
 
--- src/gathering.rt:76:13
 add-count : tie.Need-add-count Inv-loop μ-loop
 add-count c = search needs
 
--- src/gathering.rt:78:9
 add-i : tie.Need-add-i Inv-loop μ-loop
 add-i c = search needs
 
--- src/gathering.rt:72:5
 loop-less : tie.Need-loop-less Inv-loop μ-loop
 loop-less c = omega arith
 
--- src/gathering.rt:72:5
 loop-again : tie.Need-loop-again Inv-loop μ-loop
-loop-again c = ?
+loop-again c =
+    let g = c .before in
+    let l = g .before in
+    let at = l .before .before in
+    let b = at .before in
+    let st = b .before .before in
+    let inside : at .loop .count < length (at .loop .lines) = omega arith in
+    ⊎-elim
+    (λ w. (
+      omega (arith, w .3),
+      omega arith,
+      ap length (w .2) ∙ simp length-set (at .loop .inv .2),
+      one-gathered (st .args .year) (st .args .ledger .now) (st .args .h) (at .loop .i) (b .bounds-of .result) (l .line-at .result) (b .bounds-of .ensures) (l .line-at .ensures) (at .loop .lines) (at .loop .count) (at .loop .inv .3)
+          (w .1 .result) _ _ (sym (g .is-gathered .ensures) ∙ w .0 .taken) (w .1 .ensures) inside (w .2) (w .3),
+    ))
+    (λ w. (
+      omega (arith, w .2),
+      omega arith,
+      ap length (w .1) ∙ at .loop .inv .2,
+      one-left (st .args .year) (st .args .ledger .now) (st .args .h) (at .loop .i) (b .bounds-of .result) (l .line-at .result) (b .bounds-of .ensures) (l .line-at .ensures) (at .loop .lines) (at .loop .count) (at .loop .inv .3)
+          _ _ (sym (g .is-gathered .ensures) ∙ w .0 .left) (w .1) (w .2),
+    ))
+    (c .if1 .came)
 
--- src/gathering.rt:59:1
 returns : tie.Need-returns Inv-loop μ-loop
-returns c = ?
+returns c =
+    let at = c .before in
+    let st = at .before .before .before in
+    let whole : at .loop .i ≡ st .args .n = omega arith in
+    record {
+      few = omega (arith, st .pre);
+      size = at .loop .inv .2;
+      sums = λ d. ap (λ (k : ℕ). signedSum k (partIn (st .args .year) (st .args .ledger .now) (st .args .h .user) (st .args .h .point) d)) (sym whole) ∙ at .loop .inv .3 d;
+    }
 
 pub gather-spec : {M : Type 1} → statement M
 gather-spec =

@@ -1,86 +1,104 @@
+use mathlib.Core.Path.{_≡_, refl, sym, ap, ap₂, _∙_}
+use Prim.Native.Nat.{ℕ, _-_, _*_, _≤_, _<_}
+use native.Mathlib.Nat.{lt-trans}
+use lib.Dec.{lit<}
+use lib.IntN.{pos, _+ℤ_}
+use lib.Signed.{mag, ltZ}
+use mir.Syntax.{w64}
+use mir.Val.{toZ, ofZ}
+use mir.Facts.{toZ-ofZ}
+use Rattle.register.specs.Limits.{lineCount}
+use Rattle.register.specs.Amounts.{spanDays}
+use Rattle.holdings.specs.Holdings.{signedSum, firstShort}
+use Rattle.holdings.specs.Steps.{coverAt, coverShort}
+use Rattle.holdings.proofs.SumLaws.{sum-none, sum-more, added, added-fits, added-small}
+use Rattle.holdings.proofs.HeldLaws.{first-none, first-hit, first-miss}
 use native.Mathlib.Omega.{arith}
 use borrow.Author.Needs.{needs}
 use Rattle.holdings.proofs.holdings.short_day.Statement.{statement}
 use Rattle.holdings.proofs.holdings.short_day.Tie as tie
-use Rattle.holdings.proofs.holdings.short_day.Reads as reads
-use Rattle.holdings.proofs.holdings.short_day.Lts as lts
-use Rattle.holdings.proofs.gathering.cover_on.Reads as cover-on-reads
 
 abbrev Inv-lines : tie.InvT-lines
-Inv-lines first last amount covers day sum₀ k₀ sum k = ?
+Inv-lines first last amount covers day sum₀ k₀ sum k =
+    (k ≤ covers .count) × (toZ w64 sum ≡ signedSum k (coverAt (covers .lines) day)) × (mag (toZ w64 sum) ≤ 2147483648 * k)
 
 abbrev μ-lines : tie.MeasureT-lines
-μ-lines first last amount covers day sum₀ k₀ sum k = ?
+μ-lines first last amount covers day sum₀ k₀ sum k = covers .count - k
 
 abbrev Inv-days : tie.InvT-days
-Inv-days first last amount covers day₀ day = ?
+Inv-days first last amount covers day₀ day =
+    firstShort (coverShort covers amount) (spanDays first last) first ≡ firstShort (coverShort covers amount) (spanDays day last) day
 
 abbrev μ-days : tie.MeasureT-days
-μ-days first last amount covers day₀ day = ?
+μ-days first last amount covers day₀ day = spanDays day last
 
--- src/holdings.rt:34:9
 days-holds : tie.Need-days-holds Inv-lines μ-lines Inv-days μ-days
-days-holds c = ?
+days-holds c = refl
 
--- src/holdings.rt:40:9
 lines-holds : tie.Need-lines-holds Inv-lines μ-lines Inv-days μ-days
-lines-holds c = ?
+lines-holds c = (search needs, sym (sum-none _), search needs)
 
--- src/holdings.rt:42:26
 cast-if3 : tie.Need-cast-if3 Inv-lines μ-lines Inv-days μ-days
 cast-if3 c = search needs
 
--- src/holdings.rt:43:47
 cast-t18 : tie.Need-cast-t18 Inv-lines μ-lines Inv-days μ-days
 cast-t18 c = search needs
 
--- src/holdings.rt:47:21
 mul-c : tie.Need-mul-c Inv-lines μ-lines Inv-days μ-days
 mul-c c = search needs
 
--- src/holdings.rt:47:21
 element-copy-out-c : tie.Need-element-copy-out-c Inv-lines μ-lines Inv-days μ-days
 element-copy-out-c c = search needs
 
--- src/holdings.rt:48:20
 cover-on-requires : tie.Need-cover-on-requires Inv-lines μ-lines Inv-days μ-days
 cover-on-requires c κs = search needs
 
--- src/holdings.rt:48:13
 add-sum : tie.Need-add-sum Inv-lines μ-lines Inv-days μ-days
-add-sum c = search needs
+add-sum c =
+    let at = c .before .before .before in
+    added-fits (at .lines .sum) (c .cover-on .result) (at .lines .k) (at .lines .inv .2) (omega arith) (c .cover-on .ensures .1)
 
--- src/holdings.rt:49:13
 add-k : tie.Need-add-k Inv-lines μ-lines Inv-days μ-days
 add-k c = search needs
 
--- src/holdings.rt:40:9
 lines-less : tie.Need-lines-less Inv-lines μ-lines Inv-days μ-days
 lines-less c = omega arith
 
--- src/holdings.rt:40:9
 lines-again : tie.Need-lines-again Inv-lines μ-lines Inv-days μ-days
-lines-again c = ?
+lines-again c =
+    let at = c .before .before .before in
+    let few : at .lines .k < lineCount = omega arith in
+    let x = c .cover-on .result in
+    let e = added (at .lines .sum) x (at .lines .k) (at .lines .inv .2) few (c .cover-on .ensures .1) in (
+      omega arith,
+      e ∙ rw sum-more (ap₂ _+ℤ_ (at .lines .inv .1) (c .cover-on .ensures .0)),
+      rw e (added-small (at .lines .sum) x (at .lines .k) (at .lines .inv .2) few (c .cover-on .ensures .1)),
+    )
 
--- src/holdings.rt:51:9
+-- after the last line the test is the definition's
+test : (c : tie.Then2 Inv-lines μ-lines Inv-days μ-days)
+    → (let d = c .before .before .before in
+    ltZ (toZ w64 (c .before .lines .sum)) (toZ w64 (ofZ w64 (pos (d .before .args .amount)))) ≡ coverShort (d .before .args .t1) (d .before .args .amount) (d .days .day))
+test c =
+    let d = c .before .before .before in
+    ap₂ ltZ
+    (c .before .lines .inv .1 ∙ ap (λ (k : ℕ). signedSum k (coverAt (d .before .args .t1 .lines) (d .days .day))) (omega arith))
+    (toZ-ofZ {w = w64} (record { sfits = lt-trans (d .before .fits .amount .fits) (lit< tt) }))
+
 add-day : tie.Need-add-day Inv-lines μ-lines Inv-days μ-days
 add-day c = search needs
 
--- src/holdings.rt:34:9
 days-less : tie.Need-days-less Inv-lines μ-lines Inv-days μ-days
 days-less c = omega arith
 
--- src/holdings.rt:34:9
 days-again : tie.Need-days-again Inv-lines μ-lines Inv-days μ-days
-days-again c = ?
+days-again c = c .before .before .before .before .days .inv ∙ first-miss _ _ _ (search needs) (sym (test (c .before)) ∙ c .if3 .left)
 
--- src/holdings.rt:29:1
 returns : tie.Need-returns Inv-lines μ-lines Inv-days μ-days
-returns c = ?
+returns c = sym (c .before .days .inv ∙ first-none _ _ _ (c .if1 .taken))
 
--- src/holdings.rt:29:1
 returns-2 : tie.Need-returns-2 Inv-lines μ-lines Inv-days μ-days
-returns-2 c = ?
+returns-2 c = sym (c .before .before .before .before .days .inv ∙ first-hit _ _ _ (search needs) (sym (test (c .before)) ∙ c .if3 .taken))
 
 pub short-day-spec : {M : Type 1} → statement M
 short-day-spec =

@@ -1,0 +1,143 @@
+-- Laws of the cession's questions: what the code's steps rest on.
+-- Assumes nothing.
+use mathlib.Core.Path.{_≡_, refl, sym, ap, _∙_}
+use mathlib.Core.Bool.{true, false, not, _&&_}
+use mathlib.Core.List.{List}
+use Prim.Native.Nat.{ℕ, _≤_, _<_}
+use native.Mathlib.Omega.{arith}
+use lib.Dec.{ltb, eqb}
+use borrow.Author.Tests.{ltb-true, eqb-false, not-true}
+use Rattle.calendar.specs.declared.thermal_years.Span.the-variants.{Days, OutsideCalendar}
+use Rattle.calendar.specs.Days.{lastDay, between}
+use Rattle.calendar.specs.ThermalYears.{thermalFirst, thermalLast}
+use Rattle.calendar.proofs.Ranges.{and-left, and-right, both, Within, within, is-between}
+use Rattle.calendar.proofs.SpanLaws.{chosen, unchosen}
+use Rattle.register.specs.declared.accounts.Account.{Account}
+use Rattle.register.specs.declared.registers.Register.{Register}
+use Rattle.register.specs.Limits.{pointCount, userCount, rowLength, mostAmount}
+use Rattle.register.specs.Registers.{State, accountAt, withAccount}
+use Rattle.register.specs.Ledger.{lineAt}
+use Rattle.register.specs.Amounts.{spanDays}
+use Rattle.register.specs.Charges.{charge, discharged}
+use Rattle.register.specs.Order.{inOrder}
+use Rattle.register.specs.Answers.{Question, numberOf}
+use Rattle.register.proofs.CalendarLaws.{year-facts}
+use Rattle.register.proofs.OrderFacts.{ordered, line-facts}
+use Rattle.register.proofs.OrderKept.{account-other}
+use Rattle.conferral.specs.Spans.{arrives, annualAnswer}
+use Rattle.conferral.specs.Bookings.{committed}
+use Rattle.conferral.proofs.SpanLaws.{SpanFacts, span-facts, arrival-year}
+use Rattle.holdings.specs.declared.holdings.Holding.{Holding}
+use Rattle.holdings.specs.declared.holdings.Held.{Held}
+use Rattle.holdings.specs.Holdings.{heldAnswer, isThroughout}
+use Rattle.holdings.proofs.HeldLaws.{held-answer}
+use Rattle.cessions.specs.declared.ceding.Cession.{Cession}
+use Rattle.cessions.specs.declared.ceding.Decision.{Decision}
+use Rattle.cessions.specs.declared.ceding.Decision.the-variants.{Cede, Refuse}
+use Rattle.cessions.specs.CedeCapacity.{cessionFields, pointOf, giverOf, receiverOf, spanFirst, spanLast, isInYear, givenOf, isHeld, chargeOf, chargeMoved}
+use Rattle.cessions.specs.Steps.{spanAnswer, handoverOf, Decides, Spanned, LinesIn}
+
+-- ---- question 1
+-- it tells of the used lines that each begins in the year
+pub lines-in : (s : State) → inOrder s ≡ true → LinesIn (s .register) (s .ledger)
+lines-in s h =
+    let o = ordered s h in
+    let r = s .register in
+    record {
+      few = o .few;
+      firsts = λ i l.
+          let f = line-facts (r .year) (r .points) (r .accounts) (lineAt (s .ledger) i) (o .lines i l) in
+          both _ _ (o .year) (is-between (thermalFirst (r .year)) (thermalLast (r .year)) (lineAt (s .ledger) i .first) (f .first .from) (f .first .to));
+    }
+
+-- ---- question 2
+pub record FieldFacts (c : Cession) : Type 0 where
+  pub point : c .point < pointCount
+  pub giver : c .giver < userCount
+  pub receiver : c .receiver < userCount
+  pub apart : c .giver ≡ c .receiver → ⊥
+  pub amount : Within 1 mostAmount (c .amount)
+
+pub fields : (c : Cession) → cessionFields c ≡ true → FieldFacts c
+fields c h =
+    let p = ltb (c .point) pointCount in
+    let g = ltb (c .giver) userCount in
+    let r = ltb (c .receiver) userCount in
+    let n = not (eqb (c .giver) (c .receiver)) in
+    let m = between 1 mostAmount (c .amount) in
+    let named = and-left (p && (g && r) && n) m h in
+    let within-counts = and-left (p && (g && r)) n named in
+    let users = and-right p (g && r) within-counts in
+    record {
+      point = ltb-true _ _ (and-left p (g && r) within-counts);
+      giver = ltb-true _ _ (and-left g r users);
+      receiver = ltb-true _ _ (and-right g r users);
+      apart = eqb-false _ _ (not-true _ (and-right (p && (g && r)) n named));
+      amount = within 1 mostAmount (c .amount) (and-right (p && (g && r) && n) m h);
+    }
+
+-- ---- question 8
+pub no-arrival : (y a : ℕ) → arrives y a ≡ false → OutsideCalendar ≡ spanAnswer y a
+unfolding spanAnswer
+no-arrival y a h = rw h
+
+pub arrived-span : (y a : ℕ) → arrives y a ≡ true → annualAnswer y a ≡ spanAnswer y a
+unfolding spanAnswer annualAnswer
+arrived-span y a h = rw (h, arrival-year y a h)
+
+module _ (r : Register) (c : Cession) where
+  pub spanned : (first last : ℕ) → spanAnswer (r .year) (c .arrival) ≡ Days first last → Spanned r c first last
+  unfolding spanAnswer
+  spanned first last e =
+      let t = chosen (isInYear r c) (spanFirst c) (spanLast r) first last e in
+      record { begins = t .1 .0; ends = t .1 .1; fits = t .0 }
+
+  pub no-span : spanAnswer (r .year) (c .arrival) ≡ OutsideCalendar → isInYear r c ≡ false
+  unfolding spanAnswer
+  no-span e = unchosen (isInYear r c) (spanFirst c) (spanLast r) e
+
+  pub span-in : (first last : ℕ) → Spanned r c first last → SpanFacts (r .year) (c .arrival) first last
+  span-in first last w =
+      rw (w .begins, w .ends) (span-facts (r .year) (c .arrival) (spanFirst c) (spanLast r) (w .fits))
+
+  -- its days lie in the calendar, and are not more than a year has
+  pub span-limits : (first last : ℕ) → Spanned r c first last → (first ≤ last) × ((last ≤ lastDay) × (spanDays first last ≤ rowLength))
+  span-limits first last w =
+      let s = span-in first last w in
+      let y = year-facts (r .year) (s .year) in
+      (s .fit .ordered, (omega (arith, s .fit .ends, y .last), omega (arith, s .fit .begins, s .fit .ordered, s .fit .ends, y .most)))
+
+  -- ---- question 10
+  -- what the giver is to hold, from the days of the span
+  pub given-is : (first last : ℕ) → Spanned r c first last → (h : Holding)
+      → h ≡ record { user = c .giver; point = c .point; first = first; last = last; amount = c .amount }
+      → h ≡ givenOf r c
+  given-is first last w h e = e ∙ rw (w .begins, w .ends)
+
+  pub held-asks : (first last : ℕ) → Spanned r c first last → (ls : List ℕ) → LinesIn r ls → (v : Held)
+      → v ≡ heldAnswer (r .year) (r .lines) ls (record { user = c .giver; point = c .point; first = first; last = last; amount = c .amount })
+      → isThroughout v ≡ isHeld r ls c
+  held-asks first last w ls l v e =
+      ap isThroughout (e ∙ ap (heldAnswer (r .year) (r .lines) ls) (given-is first last w _ refl))
+      ∙ held-answer (r .year) (r .lines) ls (l .few) (l .firsts) (givenOf r c)
+
+  -- ---- the charge
+  pub charge-is : (first last : ℕ) → Spanned r c first last → charge (c .amount) (spanDays first last) (pointOf r c .rate) ≡ chargeOf r c
+  charge-is first last w = rw (w .begins, w .ends)
+
+  pub handover-is : (first last n : ℕ) → Spanned r c first last → n ≡ chargeOf r c → record { first = first; charge = n } ≡ handoverOf r c
+  handover-is first last n w e = rw (w .begins, e)
+
+  -- "The charge moves between the commitments": the receiver's account is what it was before the giver's is lowered
+  pub moved-as : (n : ℕ) (lowered raised : Account) → FieldFacts c → lowered ≡ discharged (giverOf r c) n → raised ≡ committed (receiverOf r c) n
+      → withAccount (withAccount r (c .giver) lowered) (c .receiver) raised ≡ chargeMoved r c n
+  moved-as n lowered raised w e h =
+      let kept : accountAt (withAccount r (c .giver) (discharged (giverOf r c) n) .accounts) (c .receiver) ≡ receiverOf r c =
+      account-other (r .accounts) (c .giver) (discharged (giverOf r c) n) (c .receiver) (λ q. w .apart (sym q)) in
+      rw (e, h, kept)
+
+-- ---- decisions
+-- what a decision says of some questions it says of others that give the same number
+pub decides-too : (qs rs : List Question) (r : Register) (c : Cession) (d : Decision) → numberOf qs ≡ numberOf rs → Decides qs r c d → Decides rs r c d
+decides-too qs rs r c (Cede h) e d = (sym e ∙ d .0, d .1)
+decides-too qs rs r c (Refuse why) e d = d ∙ e

@@ -1,0 +1,4 @@
+pub mod CessionLaws
+pub mod AnswerLaws
+pub mod CededLaws
+pub mod RefusalLaws

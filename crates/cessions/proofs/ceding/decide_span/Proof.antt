@@ -1,0 +1,67 @@
+use mathlib.Core.Path.{sym, _∙_}
+use borrow.Author.Tests.{not-true, not-false}
+use Rattle.calendar.proofs.Ranges.{and-left}
+use Rattle.conferral.specs.Spans.{spanFits}
+use Rattle.cessions.specs.CedeCapacity.{spanFirst, spanLast, heldQuestions, spanQuestions}
+use Rattle.cessions.specs.Steps.{Spanned}
+use Rattle.cessions.proofs.CessionLaws.{spanned, no-span, decides-too}
+use native.Mathlib.Omega.{arith}
+use borrow.Author.Needs.{needs}
+use Rattle.cessions.proofs.ceding.decide_span.Statement.{statement}
+use Rattle.cessions.proofs.ceding.decide_span.Tie as tie
+
+-- the span, and question 8
+span : (c : tie.After-known-told) → (let a = c .before .before .before .before .before .args in Spanned (a .r) (a .c) (c .before .span .given .0 .0) (c .before .span .given .0 .1 .0))
+span c =
+    let a = c .before .before .before .before .before .args in
+    spanned (a .r) (a .c) _ _ (sym (c .before .before .before .span-of .ensures) ∙ c .before .span .given .1)
+
+span-of-requires : tie.Need-span-of-requires
+span-of-requires c κs = search needs
+
+enum-known-span : tie.Need-enum-known-span
+enum-known-span c = search needs
+
+is-in-time-requires : tie.Need-is-in-time-requires
+is-in-time-requires c κs =
+    let a = c .before .before .before .before .before .args in
+    and-left _ (spanFits (a .r .year) (spanFirst (a .c)) (spanLast (a .r))) (span c .fits)
+
+returns : tie.Need-returns
+returns c = rw (span (c .before .before) .fits, sym (c .before .is-in-time .ensures) ∙ not-true _ (c .if1 .taken))
+
+decide-held-requires : tie.Need-decide-held-requires
+decide-held-requires c κs =
+    let t = c .before .before in
+    let st = t .before .before .before .before .before in
+    (st .pre .0, (span t, st .pre .1))
+
+enum-told : tie.Need-enum-told
+enum-told c = search needs
+
+returns-2 : tie.Need-returns-2
+returns-2 c =
+    let e = c .before in
+    let t = e .before .before in
+    let a = t .before .before .before .before .before .args in
+    decides-too (heldQuestions (a .r) (a .ledger .now) (a .c)) (spanQuestions (a .r) (a .ledger .now) (a .c)) (a .r) (a .c) (c .decide-held .result)
+    (rw (span t .fits, sym (e .before .is-in-time .ensures) ∙ not-false _ (e .if1 .left)))
+    (c .decide-held .ensures)
+
+returns-3 : tie.Need-returns-3
+returns-3 c =
+    let a = c .before .before .before .before .args in
+    rw (no-span (a .r) (a .c) (sym (c .before .before .span-of .ensures) ∙ c .enum-told .given .1))
+
+pub decide-span-spec : {M : Type 1} → statement M
+decide-span-spec =
+    tie.close
+    (tie.spec
+    span-of-requires
+    enum-known-span
+    is-in-time-requires
+    returns
+    decide-held-requires
+    enum-told
+    returns-2
+    returns-3)

@@ -1,0 +1,4 @@
+pub mod EndLaws
+pub mod SumLaws
+pub mod GatherLaws
+pub mod HeldLaws
