@@ -24,6 +24,7 @@ use crate::script::{Answer, Field, Step};
 /// Adds the cessions. Each part starts from a fresh register.
 pub(super) fn add_to(c: &mut Cases) {
     one_cession(c);
+    minus_then_plus(c);
     deadlines(c);
     arrivals(c);
     spans(c);
@@ -118,6 +119,21 @@ fn one_cession(c: &mut Cases) {
     c.place("20,100,000 are taken over", 6, 20_099_999, 6);
     c.place("no more", 6, 20_100_000, 0);
     c.report("free amounts do not move", 0, 9039, 400);
+}
+
+/// The two lines in their order: the host counts both, the first or neither.
+fn minus_then_plus(c: &mut Cases) {
+    start(c, 0, 100);
+    c.ceded("40 from November", to_6(8689, 40), 40);
+    c.not_ceded("60 are left", to_6(8689, 61), 10);
+    c.not_ceded("40 are taken over", cession(6, 7, 0, 8689, 41), 10);
+    c.set("the giver's line alone", Lines, 2);
+    c.not_ceded("60 are left", to_6(8689, 61), 10);
+    c.not_ceded("nothing is taken over", cession(6, 7, 0, 8689, 1), 10);
+    c.set("neither line", Lines, 1);
+    c.not_ceded("100 are held", to_6(8689, 101), 10);
+    c.ceded("100 are held", to_6(8689, 100), 100);
+    c.ceded("100 are taken over", cession(6, 7, 0, 8689, 100), 100);
 }
 
 /// Cessions of 1 at rate 1, so that the days of the span are the charge: a
