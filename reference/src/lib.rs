@@ -5,6 +5,7 @@
 //! way is computed another way here.
 
 pub mod calendar;
+pub mod cession;
 pub mod register;
 pub mod request;
 pub mod script;

@@ -1,6 +1,6 @@
 //! The register, question 1, and the calls that grant no capacity: the fresh
 //! register, open point, place guarantee, turn the year and the report. The
-//! request is in [`crate::request`].
+//! request is in [`crate::request`], the cession in [`crate::cession`].
 //!
 //! The rules are those of document 01, sections "The register", "The changing
 //! calls", "Questions put to a call" and "Report and runner". What that paper
@@ -149,7 +149,7 @@ pub struct Line {
 impl Line {
     /// The line that five numbers hold; `None` if they have no kind. The amount
     /// is the number whose 32 bits, read as signed, the fifth one has.
-    fn read(numbers: &[u32]) -> Option<Line> {
+    pub(crate) fn read(numbers: &[u32]) -> Option<Line> {
         let &[user, point, kind, first, amount] = numbers else {
             return None;
         };
@@ -187,6 +187,7 @@ pub enum Refusal {
     NotOffered = 7,
     OutsideYear = 8,
     Late = 9,
+    NotHeld = 10,
     NotCovered = 11,
     NothingFree = 12,
     LedgerFull = 13,

@@ -73,16 +73,12 @@ impl Request {
     /// its end, or the span not in the year, or if no day is left.
     pub fn span(&self, year: u16) -> Option<Span> {
         let (first, last) = thermal_year(year)?;
-        let arrivals = Date::new(year, 9, 1)?.day_number()..=last;
         let arrival = u32::from(self.arrival);
-        if !arrivals.contains(&arrival) {
+        if !is_arrival(year, arrival) {
             return None;
         }
         let (from, to) = match self.product {
-            Product::Annual => {
-                let next = Date::from_day_number(arrival)?.first_of_next_month()?;
-                (next.day_number(), last)
-            }
+            Product::Annual => (first_of_month_after(arrival)?, last),
             Product::Month(month) => thermal_month(year, month)?,
             Product::Day(day) => (day.into(), day.into()),
         };
@@ -130,7 +126,7 @@ impl Point {
 
 impl Account {
     /// Question 11.
-    fn covers(&self, charge: u64) -> bool {
+    pub(crate) fn covers(&self, charge: u64) -> bool {
         self.commitment + charge <= self.guarantee
     }
 }
@@ -179,6 +175,23 @@ impl Register {
         ensure(request.is_in_time(self.year), Refusal::Late)?;
         Ok((asked, span))
     }
+}
+
+/// Whether a call may arrive on a gas-day. Document 01, question 8: from
+/// 1 September before the thermal year to the year's last day.
+pub(crate) fn is_arrival(year: u16, day: u32) -> bool {
+    let first = Date::new(year, 9, 1).map(Date::day_number);
+    let last = thermal_year(year).map(|(_, last)| last);
+    first
+        .zip(last)
+        .is_some_and(|(first, last)| (first..=last).contains(&day))
+}
+
+/// The first of the month after a gas-day, on which what is asked for or ceded to
+/// the year's end begins.
+pub(crate) fn first_of_month_after(day: u32) -> Option<u32> {
+    let next = Date::from_day_number(day)?.first_of_next_month()?;
+    Some(next.day_number())
 }
 
 /// The free amounts of a point on the days of a span.

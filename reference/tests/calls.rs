@@ -1,6 +1,9 @@
 //! The script of the program `calls`: the steps written by hand have the answers
 //! that stand beside them, and the random sequences are of use.
 
+use std::collections::BTreeSet;
+
+use reference::cession::Cession;
 use reference::request::{Product, Request};
 use reference::script::{by_hand, lines, random, steps, Answer, Host, Step};
 
@@ -83,6 +86,16 @@ fn the_sequences_have_every_answer_often() {
         (b'R', 11, 100),
         (b'R', 12, 100),
         (b'R', 13, 10),
+        (b'C', 0, 400),
+        (b'C', 1, 50),
+        (b'C', 2, 50),
+        (b'C', 3, 50),
+        (b'C', 5, 50),
+        (b'C', 8, 50),
+        (b'C', 9, 50),
+        (b'C', 10, 100),
+        (b'C', 11, 100),
+        (b'C', 13, 10),
         (b'Q', 0, 300),
         (b'Q', 1, 20),
         (b'Q', 2, 20),
@@ -132,6 +145,51 @@ fn the_sequences_grant_and_cut_often() {
     }
 }
 
+/// 1 is also given after question 10, if the giver's commitment is below the
+/// charge: the register is then in order. No other call gives 1 so.
+#[test]
+fn the_sequences_have_commitments_below_the_charge() {
+    let mut host = Host::default();
+    let mut found = 0;
+    for step in random::sequences(host.clone()).concat() {
+        let is_in_order = host.is_in_order();
+        if host.run(step).number() == Some(1) && is_in_order {
+            assert!(matches!(step, Step::Cession(_)), "{step}");
+            found += 1;
+        }
+    }
+    assert!(found >= 20, "{found} times");
+}
+
+/// What a giver cedes was granted to him, or taken over from another; both are
+/// frequent.
+#[test]
+fn the_sequences_cede_on_what_was_taken_over() {
+    let mut taken_over = BTreeSet::new();
+    let mut found = 0;
+    for (step, answer) in random_calls() {
+        match step {
+            Step::Fresh { .. } | Step::Turn { .. } if answer.number() == Some(0) => {
+                taken_over.clear();
+            }
+            Step::Cession(cession) if answer.number() == Some(0) => {
+                found += usize::from(taken_over.contains(&(cession.giver, cession.point)));
+                taken_over.insert((cession.receiver, cession.point));
+            }
+            _ => {}
+        }
+    }
+    assert!(found >= 50, "{found} times");
+}
+
+fn words_of(step: Step) -> Vec<u32> {
+    let record = step.record();
+    let words = record.chunks_exact(4);
+    words
+        .map(|word| u32::from_le_bytes(word.try_into().unwrap()))
+        .collect()
+}
+
 /// The words of a record, and how a step is printed.
 #[test]
 fn a_request_is_recorded_and_printed() {
@@ -144,24 +202,31 @@ fn a_request_is_recorded_and_printed() {
             amount: (1 << 32) + 600,
         })
     };
-    let words = |step: Step| -> Vec<u32> {
-        let record = step.record();
-        let words = record.chunks_exact(4);
-        words
-            .map(|word| u32::from_le_bytes(word.try_into().unwrap()))
-            .collect()
-    };
     for (product, kind, number, text) in [
         (Product::Annual, 1, 0, "annual"),
         (Product::Month(12), 2, 12, "month 12"),
         (Product::Day(8_700), 3, 8_700, "day 8700"),
     ] {
         let step = request(product);
-        assert_eq!(words(step), [82, 31, kind, number, 0, 8_699, 600, 1, 5]);
+        assert_eq!(words_of(step), [82, 31, kind, number, 0, 8_699, 600, 1, 5]);
         let printed = format!("request 5 31 {text} 8699 4294967896");
         assert_eq!(step.to_string(), printed);
     }
     assert_eq!(Answer::Amount(0, 600).to_string(), " -> 0 600");
+}
+
+/// The receiver has the word of the period.
+#[test]
+fn a_cession_is_recorded_and_printed() {
+    let step = Step::Cession(Cession {
+        giver: 5,
+        receiver: 63,
+        point: 31,
+        arrival: 8_696,
+        amount: (1 << 32) + 600,
+    });
+    assert_eq!(words_of(step), [67, 31, 0, 63, 0, 8_696, 600, 1, 5]);
+    assert_eq!(step.to_string(), "cession 5 63 31 8696 4294967896");
 }
 
 #[test]

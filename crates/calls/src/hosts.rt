@@ -5,6 +5,8 @@ use crate::steps::byte;
 use crate::steps::half;
 use crate::steps::is_call;
 use crate::steps::low;
+use cessions::Cession;
+use cessions::Settled;
 use register::Account;
 use register::Filed;
 use register::Point;
@@ -92,6 +94,16 @@ fn after_request(h: Host, c: Conferred) -> Host {
     )
 }
 
+fn after_cession(h: Host, c: Settled) -> Host {
+    let answer = c.answer;
+    answered(
+        h,
+        c.register,
+        cessions::settlement_number(answer),
+        cessions::settlement_amount(answer),
+    )
+}
+
 // What is requested. The script has no kind but 1, 2 and 3.
 fn product_of(s: Step) -> Product {
     let kind = s.kind;
@@ -107,6 +119,17 @@ fn request_of(s: Step) -> Request {
         user: byte(s.user),
         point: byte(s.index),
         product: product_of(s),
+        arrival: half(s.arrival),
+        amount: s.value,
+    }
+}
+
+// A cession names two users and has no period: the word of the period is the receiver's.
+fn cession_of(s: Step) -> Cession {
+    Cession {
+        giver: byte(s.user),
+        receiver: byte(s.period),
+        point: byte(s.index),
         arrival: half(s.arrival),
         amount: s.value,
     }
@@ -139,6 +162,7 @@ fn run_call(h: Host, s: Step, free: &mut [u32], ledger: &mut [u32]) -> Host {
             h,
             requests::request_capacity(r, free, ledger, request_of(s)),
         ),
+        b'C' => after_cession(h, cessions::cede_capacity(r, free, ledger, cession_of(s))),
         _ => after_report(
             h,
             register::report_free(r, &free[..], &ledger[..], byte(s.index), half(s.period)),

@@ -47,6 +47,15 @@ fn print_request(s: Step) {
     print_field(s.value);
 }
 
+fn print_cession(s: Step) {
+    print_text(b" cession");
+    print_field(s.user as u64);
+    print_field(s.period as u64);
+    print_field(s.index as u64);
+    print_field(s.arrival as u64);
+    print_field(s.value);
+}
+
 fn print_call(s: Step) {
     let letter = s.letter;
     match letter {
@@ -65,6 +74,7 @@ fn print_call(s: Step) {
             print_field(s.period as u64);
         }
         b'R' => print_request(s),
+        b'C' => print_cession(s),
         _ => {
             print_text(b" report");
             print_field(s.index as u64);
@@ -119,10 +129,20 @@ fn print_write(s: Step) {
     }
 }
 
+// Whether the answer of a call has an amount beside its number.
+fn has_amount(letter: u8) -> bool {
+    match letter {
+        b'R' => true,
+        b'C' => true,
+        b'Q' => true,
+        _ => false,
+    }
+}
+
 fn print_answer(h: Host, letter: u8) {
     print_text(b" ->");
     print_field(h.number as u64);
-    if (letter == b'Q') | (letter == b'R') {
+    if has_amount(letter) {
         print_field(h.amount as u64);
     }
 }

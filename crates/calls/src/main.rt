@@ -3,11 +3,13 @@
 //
 // A step is a call, or writes one number of the register, of the lists that are lent or of their lengths, or copies a line: what a
 // faulty host could do. Its record has nine words of 32 bits, little-endian: letter; point, the user of a guarantee or the place in
-// a list; kind, of a point or of what is requested (1 annual, 2 month, 3 day); year, gas-day or month of the year; rate; the arrival
-// of a request; total, guarantee, amount, number written or count of lines, low half first; and the user of a request.
+// a list; kind, of a point or of what is requested (1 annual, 2 month, 3 day); year, gas-day or month of the year, or the receiver
+// of a cession; rate; the arrival of a request or a cession; total, guarantee, amount, number written or count of lines, low half
+// first; and the user of a request or the giver of a cession.
 //
-// A line has the position of the step from 1, the step, the number of its answer after `->`, for a report the free amount and for a
-// request the amount granted, and a digest of the register and of both lists, the numbers that are never lent included.
+// A line has the position of the step from 1, the step, the number of its answer after `->`, for a report the free amount, for a
+// request the amount granted and for a cession the amount ceded, and a digest of the register and of both lists, the numbers that
+// are never lent included.
 mod digests;
 mod hosts;
 mod lines;

@@ -49,6 +49,7 @@ pub fn is_call(letter: u8) -> bool {
         b'G' => true,
         b'Y' => true,
         b'R' => true,
+        b'C' => true,
         b'Q' => true,
         _ => false,
     }

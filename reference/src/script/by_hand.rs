@@ -1,13 +1,16 @@
 //! Steps written by hand. The number and the amount of each answer stand here as
 //! document 01 gives them; none is computed. Of the fields of the steps one is:
-//! the arrival of the request in `damaged`, the day before its gas-day.
+//! the arrival of the request and the cession in `damaged`, the day before a
+//! gas-day.
 //!
 //! Days: thermal year 2023 runs from day 8,674 to 9,039 and has 366 days, 2022
 //! from 8,309 to 8,673 and 2024 from 9,040 to 9,404, each with 365.
 
+mod cessions;
 mod requests;
 
 use super::{Answer, Field, Step};
+use crate::cession::Cession;
 use crate::request::{Product, Request};
 use Field::*;
 
@@ -79,6 +82,15 @@ impl Cases {
         self.push(why, Step::Request(request), Answer::Amount(number, 0));
     }
 
+    fn ceded(&mut self, why: &str, cession: Cession, amount: u32) {
+        self.push(why, Step::Cession(cession), Answer::Amount(0, amount));
+    }
+
+    /// A cession that is refused: the amount is 0.
+    fn not_ceded(&mut self, why: &str, cession: Cession, number: u8) {
+        self.push(why, Step::Cession(cession), Answer::Amount(number, 0));
+    }
+
     fn set(&mut self, why: &str, field: Field, value: u64) {
         self.push(why, Step::Set(field, value), Answer::None);
     }
@@ -95,6 +107,7 @@ impl Cases {
         self.place(why, 9, 70, 1);
         self.turn(why, 2098, 1);
         self.refused(why, day(5, point, gas_day, gas_day - 1, 1), 1);
+        self.not_ceded(why, cession(5, 63, point, gas_day - 1, 1), 1);
         for &(field, _, usual) in changes.iter().rev() {
             self.set("repaired", field, usual);
         }
@@ -141,6 +154,17 @@ fn day(user: u8, point: u8, day: u16, arrival: u16, amount: u64) -> Request {
     }
 }
 
+/// A cession, in the order in which it is printed.
+fn cession(giver: u8, receiver: u8, point: u8, arrival: u16, amount: u64) -> Cession {
+    Cession {
+        giver,
+        receiver,
+        point,
+        arrival,
+        amount,
+    }
+}
+
 /// The steps in their order. The register is one of 2023, unless a part says
 /// otherwise.
 pub fn cases() -> Vec<Case> {
@@ -160,6 +184,7 @@ pub fn cases() -> Vec<Case> {
     ordinary_years(&mut cases);
     first_and_last_year(&mut cases);
     requests::add_to(&mut cases);
+    cessions::add_to(&mut cases);
     cases.cases
 }
 
@@ -169,6 +194,7 @@ fn fresh_registers(c: &mut Cases) {
     c.no_report("no register yet: year 0", 0, 8674, 1);
     c.turn("no register yet", 2023, 1);
     c.refused("no register yet", day(5, 0, 8700, 8699, 600), 1);
+    c.not_ceded("no register yet", cession(5, 6, 0, 8689, 10), 1);
     c.fresh("one before the first year", 1999, 2);
     c.fresh("one after the last year", 2099, 2);
     c.fresh("no year", 0, 2);

@@ -10,24 +10,29 @@
 //! - 0: the letter of the step;
 //! - 1: point, the user of a guarantee or the place in a list;
 //! - 2: kind, of a point or of what is requested (1 annual, 2 month, 3 day);
-//! - 3: year, gas-day or month of the year;
+//! - 3: year, gas-day or month of the year, or the receiver of a cession;
 //! - 4: rate;
-//! - 5: the arrival of a request;
+//! - 5: the arrival of a request or a cession;
 //! - 6, 7: total, guarantee, amount, number written or count of lines, low half
 //!   first;
-//! - 8: the user of a request.
+//! - 8: the user of a request, the giver of a cession.
+//!
+//! A cession names two users and has no period, so that the word of the period
+//! is the receiver's.
 //!
 //! A word that a step does not use is 0.
 //!
 //! A line of the output has the position of the step from 1, the step, the
-//! number of its answer after `->`, for a report the free amount and for a
-//! request the amount granted, and a digest of the register and of both lists.
+//! number of its answer after `->`, for a report the free amount, for a request
+//! the amount granted and for a cession the amount ceded, and a digest of the
+//! register and of both lists.
 
 pub mod by_hand;
 pub mod random;
 
 use std::fmt;
 
+use crate::cession::Cession;
 use crate::register::{Lent, Refusal, Register, LEDGER_LENGTH, NUMBERS_IN_LINE, TABLE_LENGTH};
 use crate::request::{Product, Request};
 
@@ -104,6 +109,7 @@ pub enum Step {
         year: u16,
     },
     Request(Request),
+    Cession(Cession),
     Report {
         point: u8,
         day: u16,
@@ -147,6 +153,18 @@ impl Words {
             arrival: request.arrival,
             value: request.amount,
             user: request.user,
+            ..Words::default()
+        }
+    }
+
+    fn of_cession(cession: Cession) -> Words {
+        Words {
+            letter: b'C',
+            index: cession.point.into(),
+            period: cession.receiver.into(),
+            arrival: cession.arrival,
+            value: cession.amount,
+            user: cession.giver,
             ..Words::default()
         }
     }
@@ -209,6 +227,7 @@ impl Step {
                 ..none
             },
             Step::Request(request) => Words::of_request(request),
+            Step::Cession(cession) => Words::of_cession(cession),
             Step::Report { point, day } => Words {
                 letter: b'Q',
                 index: point.into(),
@@ -246,6 +265,7 @@ impl fmt::Display for Step {
             Step::Place { user, guarantee } => write!(f, "place {user} {guarantee}"),
             Step::Turn { year } => write!(f, "turn {year}"),
             Step::Request(request) => write_request(f, request),
+            Step::Cession(cession) => write_cession(f, cession),
             Step::Report { point, day } => write!(f, "report {point} {day}"),
             Step::Set(field, value) => match field.parts() {
                 (_, name, Some(index)) => write!(f, "set {name} {index} {value}"),
@@ -266,14 +286,26 @@ fn write_request(f: &mut fmt::Formatter<'_>, request: Request) -> fmt::Result {
     write!(f, " {} {}", request.arrival, request.amount)
 }
 
+fn write_cession(f: &mut fmt::Formatter<'_>, cession: Cession) -> fmt::Result {
+    let Cession {
+        giver,
+        receiver,
+        point,
+        arrival,
+        amount,
+    } = cession;
+    write!(f, "cession {giver} {receiver} {point} {arrival} {amount}")
+}
+
 /// What a step answers; a step that writes a number answers nothing.
 #[derive(Debug, Clone, Copy, PartialEq, Eq)]
 pub enum Answer {
     None,
     /// The number of a call that has no amount to tell.
     Number(u8),
-    /// The number of a report with the free amount, or that of a request with
-    /// the amount granted. The amount is 0 if the call is refused.
+    /// The number of a report with the free amount, that of a request with the
+    /// amount granted, or that of a cession with the amount ceded. The amount is
+    /// 0 if the call is refused.
     Amount(u8, u32),
 }
 
@@ -358,6 +390,7 @@ impl Host {
             }
             Step::Turn { year } => number_of(register.turn_year(&mut lent, year)),
             Step::Request(request) => amount_of(register.request(&mut lent, request)),
+            Step::Cession(cession) => amount_of(register.cede(&mut lent, cession)),
             Step::Report { point, day } => amount_of(register.report(&lent, point, day)),
             Step::Set(..) | Step::Repeat { .. } => Answer::None,
         }

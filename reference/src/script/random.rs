@@ -5,6 +5,7 @@
 //! also have writes: some leave the register in order, some damage it and are
 //! mostly repaired.
 
+mod cessions;
 mod damages;
 mod requests;
 
@@ -14,15 +15,15 @@ use crate::request::Span;
 
 /// How many sequences there are: enough that each answer is found as often as
 /// `tests/calls.rs` asks for, and hardly more, because the script and its answers
-/// are stored. 120 sequences would grant fewer than the 800 requests asked for.
+/// are stored. 120 sequences would have fewer than the 400 cessions asked for.
 const SEQUENCES: usize = 130;
 
 /// How many steps a sequence has at least; repairs may follow. About seven of
 /// them make the register, points and users. As many steps in all would do less in
-/// sequences of another length: in those of 20, one request would meet a full
-/// ledger and less than half as many would find nothing free; in those of 98,
-/// fewer would be granted, in half as many years.
-const STEPS: usize = 49;
+/// sequences of another length: in those of 30, nine cessions would meet a full
+/// ledger and 280 would be accepted; in those of 120, fewer requests would be
+/// granted, in half as many years.
+const STEPS: usize = 60;
 
 const SEED: u64 = 20_231_001;
 
@@ -125,7 +126,7 @@ impl Sequence {
         if self.numbers.in_hundred(12) {
             let year = self.numbers.pick(&[0, 1999, 2099, u16::MAX]);
             self.add(Step::Fresh { year });
-            self.request();
+            self.request_or_cession();
         }
         let year = 2000 + self.numbers.below::<u16>(99);
         let year = self.numbers.pick(&[year, year, year, year, 2000, 2098]);
@@ -141,8 +142,9 @@ impl Sequence {
                 rate,
             });
         }
-        for _ in 0..2 + self.numbers.below::<u8>(2) {
-            let user = self.numbers.pick(&[0, 5, 20, 63]);
+        let users = [&[0, 5][..], &[20, 63], &[0, 5, 20, 63]];
+        for choices in &users[..2 + self.numbers.below::<usize>(2)] {
+            let user = self.numbers.pick(choices);
             let guarantee = self.good_guarantee();
             self.add(Step::Place { user, guarantee });
         }
@@ -152,9 +154,18 @@ impl Sequence {
         match self.numbers.below::<u8>(100) {
             0..=3 => self.open(),
             4..=9 => self.place(),
-            10..=27 => self.report(),
-            28..=29 => self.turn(),
-            _ => self.request(),
+            10..=22 => self.report(),
+            23..=24 => self.turn(),
+            _ => self.request_or_cession(),
+        }
+    }
+
+    /// Adds a request or a cession, a cession seldom while nobody holds anything.
+    fn request_or_cession(&mut self) {
+        let chances = if self.holdings().is_empty() { 7 } else { 40 };
+        match self.numbers.in_hundred(chances) {
+            true => self.cession(),
+            false => self.request(),
         }
     }
 

@@ -1,8 +1,9 @@
-//! What the tests of the register and of the request share.
+//! What the tests of the register, of the request and of the cession share.
 
-// Neither uses all of it.
+// None uses all of it.
 #![allow(dead_code)]
 
+use reference::cession::Cession;
 use reference::register::*;
 use reference::request::Request;
 
@@ -65,6 +66,11 @@ impl Books {
     pub fn request(&mut self, request: Request) -> Result<u32, Refusal> {
         let (register, mut lent) = self.lend();
         register.request(&mut lent, request)
+    }
+
+    pub fn cede(&mut self, cession: Cession) -> Result<u32, Refusal> {
+        let (register, mut lent) = self.lend();
+        register.cede(&mut lent, cession)
     }
 
     pub fn is_in_order(&mut self) -> bool {

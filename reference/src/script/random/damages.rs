@@ -2,6 +2,7 @@
 //! mostly repaired.
 
 use super::{Sequence, MOST_AMOUNT, MOST_GUARANTEE};
+use crate::cession::Cession;
 use crate::register::{
     Point, DAYS_IN_ROW, LEDGER_LENGTH, LEDGER_LINES, NUMBERS_IN_LINE, TABLE_LENGTH,
 };
@@ -26,14 +27,15 @@ impl Sequence {
     }
 
     /// Changes that leave the register in order: amounts taken, a commitment, a
-    /// line, a ledger that is nearly full.
+    /// line, a ledger that is nearly full. A cession follows where the change is
+    /// made for one.
     pub(super) fn change_in_order(&mut self) {
         let point = self.open_point();
         let user = self.user_on_file();
         let account = self.host.register.accounts[usize::from(user)];
         let is_open = self.host.register.points[usize::from(point)].is_open();
         let lines = usize::from(self.host.register.lines);
-        match self.numbers.below::<u8>(6) {
+        match self.numbers.below::<u8>(8) {
             0 | 1 if is_open => {
                 let (first, _) = self.days_of_year();
                 let place = u16::from(point) * DAYS_IN_ROW as u16 + self.day() - first;
@@ -42,7 +44,8 @@ impl Sequence {
                 self.set(Field::Free(place), left);
             }
             2 if is_open && account.is_on_file() && lines < LEDGER_LINES => self.line(user, point),
-            3 if lines > 0 => self.fill_ledger(),
+            3 | 4 if lines > 0 => self.fill_ledger(),
+            5 => self.cession_of_commitment(),
             _ => {
                 let commitment = self.numbers.below(account.guarantee + 1);
                 self.set(Field::Commitment(user), commitment);
@@ -72,11 +75,17 @@ impl Sequence {
         self.set(Field::Lines, u64::from(lines) + 1);
     }
 
-    /// Copies the first line, so that two lines are left, or one or none.
+    /// Copies the first line, so that two lines are left, or one or none. A cession
+    /// follows, of so little that its charge is mostly covered.
     fn fill_ledger(&mut self) {
         let lines = LEDGER_LINES as u16 - self.numbers.below::<u16>(3);
         self.add(Step::Repeat { lines });
         self.set(Field::Lines, lines.into());
+        let cession = Cession {
+            amount: 1,
+            ..self.good_cession()
+        };
+        self.add(Step::Cession(cession));
     }
 
     /// Writes one field; what it held is kept, to be put back.

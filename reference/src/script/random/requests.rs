@@ -3,7 +3,7 @@
 use super::{narrow, Sequence, MOST_AMOUNT, MOST_GUARANTEE};
 use crate::calendar::{own_deadline, preceding_deadline, thermal_month, Date};
 use crate::register::{DAYS_IN_ROW, DIRECT};
-use crate::request::{Product, Request, REQUEST_DEADLINE};
+use crate::request::{Product, Request, Span, REQUEST_DEADLINE};
 use crate::script::{Field, Step};
 
 fn number_of(date: Option<Date>) -> u16 {
@@ -19,28 +19,37 @@ impl Sequence {
         for _ in 0..self.numbers.pick(&[0, 0, 0, 0, 0, 1, 1, 2]) {
             request = self.spoilt(request);
         }
-        let user = request.user;
-        let just_enough = self.just_enough(request);
+        let span = request.span(self.host.register.year);
+        let charge = span.and_then(|span| self.charge(request.point, request.amount, &span));
+        self.add_with_guarantee(Step::Request(request), request.user, charge);
+    }
+
+    /// The charge of an amount at a point, if there are both.
+    pub(super) fn charge(&self, point: u8, amount: u64, span: &Span) -> Option<u64> {
+        let point = self.host.register.points.get(usize::from(point))?;
+        Some(point.charge(u32::try_from(amount).ok()?, span))
+    }
+
+    /// Adds a step that charges a user, sometimes after a guarantee that just
+    /// covers the charge or is one too little. The usual one is placed after it.
+    pub(super) fn add_with_guarantee(&mut self, step: Step, user: u8, charge: Option<u64>) {
+        let just_enough = self.just_enough(user, charge);
         match just_enough.filter(|_| self.numbers.in_hundred(10)) {
             Some((guarantee, usual)) => {
                 self.add(Step::Place { user, guarantee });
-                self.add(Step::Request(request));
+                self.add(step);
                 let guarantee = usual;
                 self.add(Step::Place { user, guarantee });
             }
-            None => self.add(Step::Request(request)),
+            None => self.add(step),
         }
     }
 
-    /// The guarantee that just covers a request, or one less, and the one that
-    /// the user has; `None` if there can be none.
-    fn just_enough(&mut self, request: Request) -> Option<(u64, u64)> {
-        let register = &self.host.register;
-        let point = register.points.get(usize::from(request.point))?;
-        let account = register.accounts.get(usize::from(request.user))?;
-        let span = request.span(register.year)?;
-        let amount = u32::try_from(request.amount).ok()?;
-        let enough = account.commitment + point.charge(amount, &span);
+    /// The guarantee that just covers a charge, or one less, and the one that the
+    /// user has; `None` if there can be none.
+    fn just_enough(&mut self, user: u8, charge: Option<u64>) -> Option<(u64, u64)> {
+        let account = self.host.register.accounts.get(usize::from(user))?;
+        let enough = account.commitment + charge?;
         let usual = account.guarantee;
         let guarantee = self.numbers.pick(&[enough, enough.saturating_sub(1)]);
         (guarantee <= MOST_GUARANTEE).then_some((guarantee, usual))
@@ -109,7 +118,7 @@ impl Sequence {
     }
 
     /// 1 September before the year.
-    fn first_arrival(&self) -> u16 {
+    pub(super) fn first_arrival(&self) -> u16 {
         number_of(Date::new(self.year(), 9, 1))
     }
 
@@ -122,10 +131,7 @@ impl Sequence {
             Product::Annual => {
                 let some = self.numbers.below::<u8>(12);
                 let month = self.numbers.pick(&[some, some, self.busy_month - 1]);
-                let first = thermal_month(year, month).map_or(first.into(), |span| span.0);
-                let date = Date::from_day_number(first);
-                let deadline = date.and_then(|date| own_deadline(date, REQUEST_DEADLINE));
-                (number_of(date), number_of(deadline))
+                self.arrivals_in(month, REQUEST_DEADLINE)
             }
             Product::Month(month) => (
                 first,
@@ -133,6 +139,17 @@ impl Sequence {
             ),
             Product::Day(day) => (first, day - 1),
         }
+    }
+
+    /// The days of a month up to its deadline, a working day. Month 0 is the
+    /// September before the year, 1 October.
+    pub(super) fn arrivals_in(&self, month: u8, deadline: usize) -> (u16, u16) {
+        let first = match thermal_month(self.year(), month) {
+            Some((first, _)) => Date::from_day_number(first),
+            None => Date::new(self.year(), 9, 1),
+        };
+        let last = first.and_then(|date| own_deadline(date, deadline));
+        (number_of(first), number_of(last))
     }
 
     /// The request with a field that is wrong, or that another field makes so.
@@ -144,11 +161,7 @@ impl Sequence {
         match numbers.below::<u8>(15) {
             0 => request.user = numbers.pick(&[64, 65, 128, 255]),
             1 => request.point = numbers.pick(&[32, 33, 64, 255]),
-            2 => {
-                let wide = [4_294_967_296, 4_294_967_297, 1 << 40, u64::MAX];
-                let wide = numbers.pick(&wide);
-                request.amount = numbers.pick(&[0, 10_000_000, wide]);
-            }
+            2 => request.amount = self.bad_amount(),
             3 => request.product = Product::Month(numbers.pick(&[0, 13, 14, 255])),
             4 => request.point = numbers.below(32),
             5 => request.user = numbers.below(64),
@@ -168,6 +181,13 @@ impl Sequence {
             _ => request.arrival = self.late_arrival(good),
         }
         request
+    }
+
+    /// An amount outside the limits, sometimes one of more than 32 bits.
+    pub(super) fn bad_amount(&mut self) -> u64 {
+        let wide = [4_294_967_296, 4_294_967_297, 1 << 40, u64::MAX];
+        let wide = self.numbers.pick(&wide);
+        self.numbers.pick(&[0, 10_000_000, wide])
     }
 
     /// The request at a direct point, if there is one, for a month or a day.
@@ -195,15 +215,24 @@ impl Sequence {
     /// An arrival after the last one in time, mostly by a day; if none is in
     /// time, an arrival after that of the request.
     fn late_arrival(&mut self, request: Request) -> u16 {
-        let arrival = u32::from(request.arrival);
         let latest = match request.product {
-            Product::Annual => {
-                Date::from_day_number(arrival).and_then(|date| own_deadline(date, REQUEST_DEADLINE))
-            }
+            Product::Annual => return self.after_deadline(request.arrival, REQUEST_DEADLINE),
             Product::Month(month) => preceding_deadline(self.year(), month, REQUEST_DEADLINE),
             Product::Day(day) => Date::from_day_number(u32::from(day).saturating_sub(1)),
         };
-        let latest = latest.map_or(request.arrival, |date| number_of(Some(date)));
+        self.after(latest.map_or(request.arrival, |date| number_of(Some(date))))
+    }
+
+    /// A day after the deadline, a working day, of the month of an arrival,
+    /// mostly by a day.
+    pub(super) fn after_deadline(&mut self, arrival: u16, deadline: usize) -> u16 {
+        let date = Date::from_day_number(arrival.into());
+        let latest = date.and_then(|date| own_deadline(date, deadline));
+        self.after(latest.map_or(arrival, |date| number_of(Some(date))))
+    }
+
+    /// A day after another, mostly the next.
+    fn after(&mut self, latest: u16) -> u16 {
         let some = 1 + self.numbers.below::<u16>(12);
         latest.saturating_add(self.numbers.pick(&[1, 1, some]))
     }
