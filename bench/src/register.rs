@@ -1,7 +1,7 @@
-//! The register as the proved library lays it out, and its functions.
+//! The register and what a user is to hold, as the proved library lays them out.
 //!
 //! Nothing checks these declarations against the Rattle source: they stand as
-//! crates/register/src and crates/host/src have them.
+//! crates/register/src and crates/holdings/src have them.
 
 pub const POINTS: usize = 32;
 pub const USERS: usize = 64;
@@ -18,6 +18,7 @@ pub const MOST_GUARANTEE: u64 = 1_000_000_000_000_000;
 pub const ANNUAL: u32 = 1;
 pub const MONTH: u32 = 2;
 pub const DAY: u32 = 3;
+pub const KINDS: [u32; 3] = [ANNUAL, MONTH, DAY];
 
 #[repr(C)]
 #[derive(Clone, Copy, Default)]
@@ -44,29 +45,18 @@ pub struct Register {
     pub lines: u16,
 }
 
+/// An amount that a user is to hold at a point, on each day from first to last.
+#[repr(C)]
+#[derive(Clone, Copy)]
+pub struct Holding {
+    pub user: u8,
+    pub point: u8,
+    pub first: u16,
+    pub last: u16,
+    pub amount: u32,
+}
+
 const _: () = assert!(size_of::<Point>() == 12);
 const _: () = assert!(size_of::<Account>() == 24);
 const _: () = assert!(size_of::<Register>() == 1936);
-
-mod proved {
-    use super::Register;
-
-    extern "C" {
-        // A `&[u32]` is a pointer and then a length.
-        pub fn ylgrandi_in_order(
-            r: Register,
-            free: *const u32,
-            free_len: usize,
-            ledger: *const u32,
-            ledger_len: usize,
-        ) -> bool;
-    }
-}
-
-/// Question 1, by the proved library.
-pub fn in_order(r: &Register, free: &[u32], ledger: &[u32]) -> bool {
-    // Safe: the function has no `requires`, and each pointer goes with the length of its own slice.
-    unsafe {
-        proved::ylgrandi_in_order(*r, free.as_ptr(), free.len(), ledger.as_ptr(), ledger.len())
-    }
-}
+const _: () = assert!(size_of::<Holding>() == 12);

@@ -28,6 +28,14 @@ impl ThermalYear {
     pub fn len(&self) -> usize {
         self.days.clone().count()
     }
+
+    /// The last gas-day of the month of a day of the year.
+    pub fn month_last(&self, day: u32) -> u32 {
+        self.month_firsts
+            .iter()
+            .find(|&&first| day < first)
+            .map_or(*self.days.end(), |next| next - 1)
+    }
 }
 
 /// The gas-day of the first of a month of the calendar year; January is month 0.

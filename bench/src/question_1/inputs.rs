@@ -1,5 +1,7 @@
 //! Registers in order, and copies of them with one rule broken.
 
+use crate::ledger::{ledger_of, Line};
+use crate::numbers::Numbers;
 use crate::register::*;
 use crate::thermal_year::ThermalYear;
 
@@ -10,70 +12,19 @@ pub struct Input {
     pub ledger: Vec<u32>,
 }
 
-/// A small generator of numbers, the same in every run.
-pub struct Numbers(u64);
-
-impl Numbers {
-    pub fn new() -> Numbers {
-        Numbers(1)
-    }
-
-    pub fn below(&mut self, n: u32) -> u32 {
-        self.0 = self
-            .0
-            .wrapping_mul(6_364_136_223_846_793_005)
-            .wrapping_add(1_442_695_040_888_963_407);
-        (((self.0 >> 32) * u64::from(n)) >> 32) as u32
-    }
-}
-
 /// A register in order with every point open, every user on file and so many lines, each of one of the kinds.
 pub fn full(year: u16, lines: u16, kinds: &[u32]) -> Input {
     let mut numbers = Numbers::new();
     let calendar = ThermalYear::new(year).expect("a year within limits");
-    let days = calendar.len();
-    let points: [Point; POINTS] = std::array::from_fn(|_| Point {
-        kind: 1 + numbers.below(2) as u8,
-        total: 1 + numbers.below(MOST_AMOUNT),
-        rate: numbers.below(MOST_RATE + 1),
-    });
-    let accounts = std::array::from_fn(|_| {
-        let commitment = u64::from(numbers.below(1_000_000_000));
-        let guarantee = commitment + u64::from(numbers.below(1_000_000_000));
-        Account {
-            on_file: 1,
-            guarantee,
-            commitment,
-        }
-    });
-    let mut free = Vec::with_capacity(POINTS * ROW);
-    for p in points {
-        free.extend((0..ROW).map(|k| {
-            if k < days {
-                numbers.below(p.total + 1)
-            } else {
-                0
-            }
-        }));
-    }
-    let mut ledger = Vec::with_capacity(LINES * LINE);
-    for _ in 0..lines {
-        let kind = kinds[numbers.below(kinds.len() as u32) as usize];
-        let first = match kind {
-            DAY => calendar.days.start() + numbers.below(days as u32),
-            _ => calendar.month_firsts[numbers.below(12) as usize],
-        };
-        let size = 1 + numbers.below(MOST_AMOUNT) as i32;
-        let amount = if numbers.below(8) == 0 { -size } else { size };
-        ledger.extend([
-            numbers.below(USERS as u32),
-            numbers.below(POINTS as u32),
-            kind,
-            first,
-            amount as u32,
-        ]);
-    }
-    ledger.resize(LINES * LINE, 0);
+    let points = std::array::from_fn(|_| open_point(&mut numbers));
+    let accounts = std::array::from_fn(|_| account_on_file(&mut numbers));
+    let free = points
+        .iter()
+        .flat_map(|point| free_row(&mut numbers, point, calendar.len()))
+        .collect();
+    let drawn: Vec<Line> = (0..lines)
+        .map(|_| Line::drawn_of_any(&mut numbers, &calendar, kinds))
+        .collect();
     Input {
         register: Register {
             year,
@@ -82,8 +33,37 @@ pub fn full(year: u16, lines: u16, kinds: &[u32]) -> Input {
             lines,
         },
         free,
-        ledger,
+        ledger: ledger_of(&drawn),
     }
+}
+
+fn open_point(numbers: &mut Numbers) -> Point {
+    Point {
+        kind: 1 + numbers.below(2) as u8,
+        total: 1 + numbers.below(MOST_AMOUNT),
+        rate: numbers.below(MOST_RATE + 1),
+    }
+}
+
+fn account_on_file(numbers: &mut Numbers) -> Account {
+    let commitment = u64::from(numbers.below(1_000_000_000));
+    let guarantee = commitment + u64::from(numbers.below(1_000_000_000));
+    Account {
+        on_file: 1,
+        guarantee,
+        commitment,
+    }
+}
+
+/// The free amounts of a point in a year of so many days.
+fn free_row(numbers: &mut Numbers, point: &Point, days: usize) -> [u32; ROW] {
+    std::array::from_fn(|k| {
+        if k < days {
+            numbers.below(point.total + 1)
+        } else {
+            0
+        }
+    })
 }
 
 impl Input {
