@@ -66,16 +66,18 @@ pub(crate) fn gather(year: u16, n: usize, ledger: &[u32], h: Holding) -> Covers
         last: 0,
         amount: 0,
     };
-    let mut lines = [none; 2048];
-    let mut count: usize = 0;
+    let lines = [none; 2048];
+    let mut covers = Covers { lines, count: 0 };
     let mut i: usize = 0;
     while i < n {
         let l = register::line_at(ledger, i);
         if is_gathered(l, h, bounds) {
-            lines[count] = cover_of(l, bounds.last);
-            count += 1;
+            let at = covers.count;
+            let c = cover_of(l, bounds.last);
+            covers.lines[at] = c;
+            covers.count = at + 1;
         }
         i += 1;
     }
-    Covers { lines, count }
+    covers
 }

@@ -5,6 +5,7 @@ use lib.ListN.{length, length-set}
 use Rattle.register.specs.Limits.{lineCount}
 use Rattle.holdings.specs.Holdings.{signedSum, partIn}
 use Rattle.holdings.specs.Steps.{coverAt}
+use Rattle.holdings.specs.declared.gathering.Covers.{Covers}
 use Rattle.holdings.proofs.SumLaws.{sum-none}
 use Rattle.holdings.proofs.GatherLaws.{gathered-inside, one-gathered, one-left}
 use native.Mathlib.Omega.{arith}
@@ -13,11 +14,11 @@ use Rattle.holdings.proofs.gathering.gather.Statement.{statement}
 use Rattle.holdings.proofs.gathering.gather.Tie as tie
 
 abbrev Inv-loop : tie.InvT-loop
-Inv-loop year n ledger h bounds lines₀ count₀ i₀ lines count i =
-    (count ≤ i) × (i ≤ n) × (length lines ≡ lineCount) × ((d : ℕ) → signedSum i (partIn year ledger (h .user) (h .point) d) ≡ signedSum count (coverAt lines d))
+Inv-loop year n ledger h bounds covers₀ i₀ covers i =
+    (covers .count ≤ i) × (i ≤ n) × (length (covers .lines) ≡ lineCount) × ((d : ℕ) → signedSum i (partIn year ledger (h .user) (h .point) d) ≡ signedSum (covers .count) (coverAt (covers .lines) d))
 
 abbrev μ-loop : tie.MeasureT-loop
-μ-loop year n ledger h bounds lines₀ count₀ i₀ lines count i = n - i
+μ-loop year n ledger h bounds covers₀ i₀ covers i = n - i
 
 bounds-of-requires : tie.Need-bounds-of-requires Inv-loop μ-loop
 bounds-of-requires c κs = search needs
@@ -36,14 +37,14 @@ cover-of-requires c κs =
     let st = c .before .before .before .before .before .before .before in
     gathered-inside (st .args .year) (st .args .h) (c .before .before .before .before .before .bounds-of .result) (c .before .before .line-at .result) (c .before .before .before .before .before .bounds-of .ensures) (sym (c .before .is-gathered .ensures) ∙ c .if1 .taken)
 
-mul-lines : tie.Need-mul-lines Inv-loop μ-loop
-mul-lines c = search needs
+mul-c : tie.Need-mul-c Inv-loop μ-loop
+mul-c c = search needs
 
-array-set-from-lines : tie.Need-array-set-from-lines Inv-loop μ-loop
-array-set-from-lines c = search needs
+element-set-from-c : tie.Need-element-set-from-c Inv-loop μ-loop
+element-set-from-c c = search needs
 
-add-count : tie.Need-add-count Inv-loop μ-loop
-add-count c = search needs
+add-covers : tie.Need-add-covers Inv-loop μ-loop
+add-covers c = search needs
 
 add-i : tie.Need-add-i Inv-loop μ-loop
 add-i c = search needs
@@ -58,21 +59,21 @@ loop-again c =
     let at = l .before .before in
     let b = at .before in
     let st = b .before .before in
-    let inside : at .loop .count < length (at .loop .lines) = omega arith in
+    let inside : at .loop .covers .count < length (at .loop .covers .lines) = omega arith in
     ⊎-elim
     (λ w. (
-      omega (arith, w .3),
+      omega (arith, ap (λ (v : Covers). v .count) (w .2)),
       omega arith,
-      ap length (w .2) ∙ simp length-set (at .loop .inv .2),
-      one-gathered (st .args .year) (st .args .ledger .now) (st .args .h) (at .loop .i) (b .bounds-of .result) (l .line-at .result) (b .bounds-of .ensures) (l .line-at .ensures) (at .loop .lines) (at .loop .count) (at .loop .inv .3)
-          (w .1 .result) _ _ (sym (g .is-gathered .ensures) ∙ w .0 .taken) (w .1 .ensures) inside (w .2) (w .3),
+      ap (λ (v : Covers). length (v .lines)) (w .2) ∙ simp length-set (at .loop .inv .2),
+      one-gathered (st .args .year) (st .args .ledger .now) (st .args .h) (at .loop .i) (b .bounds-of .result) (l .line-at .result) (b .bounds-of .ensures) (l .line-at .ensures) (at .loop .covers .lines) (at .loop .covers .count) (at .loop .inv .3)
+          (w .1 .result) _ _ (sym (g .is-gathered .ensures) ∙ w .0 .taken) (w .1 .ensures) inside (ap (λ (v : Covers). v .lines) (w .2)) (ap (λ (v : Covers). v .count) (w .2)),
     ))
     (λ w. (
-      omega (arith, w .2),
+      omega (arith, ap (λ (v : Covers). v .count) (w .1)),
       omega arith,
-      ap length (w .1) ∙ at .loop .inv .2,
-      one-left (st .args .year) (st .args .ledger .now) (st .args .h) (at .loop .i) (b .bounds-of .result) (l .line-at .result) (b .bounds-of .ensures) (l .line-at .ensures) (at .loop .lines) (at .loop .count) (at .loop .inv .3)
-          _ _ (sym (g .is-gathered .ensures) ∙ w .0 .left) (w .1) (w .2),
+      ap (λ (v : Covers). length (v .lines)) (w .1) ∙ at .loop .inv .2,
+      one-left (st .args .year) (st .args .ledger .now) (st .args .h) (at .loop .i) (b .bounds-of .result) (l .line-at .result) (b .bounds-of .ensures) (l .line-at .ensures) (at .loop .covers .lines) (at .loop .covers .count) (at .loop .inv .3)
+          _ _ (sym (g .is-gathered .ensures) ∙ w .0 .left) (ap (λ (v : Covers). v .lines) (w .1)) (ap (λ (v : Covers). v .count) (w .1)),
     ))
     (c .if1 .came)
 
@@ -98,9 +99,9 @@ gather-spec =
     line-at-requires
     is-gathered-requires
     cover-of-requires
-    mul-lines
-    array-set-from-lines
-    add-count
+    mul-c
+    element-set-from-c
+    add-covers
     add-i
     loop-less
     loop-again
