@@ -9,15 +9,15 @@ use native.Mathlib.Omega.{arith}
 use lib.IntN.{pos, negℤ}
 use borrow.Author.Tests.{ltb-true, leb-true, eqb-true}
 use Rattle.calendar.proofs.Ranges.{and-left, and-right}
-use Rattle.register.specs.declared.answers.Refusal.{Refusal}
+use Rattle.parts.specs.declared.answers.Refusal.{Refusal}
 use Rattle.register.specs.declared.ledger.Line.{Line}
-use Rattle.register.specs.declared.registers.Register.{Register}
-use Rattle.register.specs.Limits.{lineCount}
-use Rattle.register.specs.Registers.{State, state, withLines}
-use Rattle.register.specs.Order.{isOnFile}
-use Rattle.register.specs.Answers.{numberOfRefusal, Passes}
+use Rattle.parts.specs.declared.registers.Register.{Register}
+use Rattle.parts.specs.Limits.{lineCount}
+use Rattle.parts.specs.Registers.{State, state, withLines}
+use Rattle.parts.specs.Accounts.{isOnFile}
+use Rattle.parts.specs.Answers.{numberOfRefusal, Passes}
 use Rattle.register.proofs.OrderFacts.{InOrder, ordered}
-use Rattle.register.proofs.AnswerLaws.{passes, passed, refusal-number, leaves-new, leaves-old}
+use Rattle.parts.proofs.AnswerLaws.{passes, passed, refusal-number, leaves-new, leaves-old}
 use Rattle.cessions.specs.declared.ceding.Cession.{Cession}
 use Rattle.cessions.specs.declared.ceding.Handover.{Handover}
 use Rattle.cessions.specs.declared.ceding.Decision.the-variants.{Cede, Refuse}

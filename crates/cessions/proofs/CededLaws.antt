@@ -14,16 +14,17 @@ use mir.Syntax.{w32}
 use mir.Val.{SFits, toZ, ofZ}
 use mir.Facts.{toZ-ofZ, toZ-pos}
 use Rattle.calendar.proofs.Ranges.{both}
-use Rattle.register.specs.declared.points.Point.{Point}
-use Rattle.register.specs.declared.accounts.Account.{Account}
+use Rattle.parts.specs.declared.points.Point.{Point}
+use Rattle.parts.specs.declared.accounts.Account.{Account}
 use Rattle.register.specs.declared.ledger.Line.{Line}
-use Rattle.register.specs.Limits.{userCount, mostAmount}
-use Rattle.register.specs.Registers.{State, accountAt, absentUser}
+use Rattle.parts.specs.Limits.{userCount, mostAmount}
+use Rattle.parts.specs.Registers.{State, accountAt, absentUser}
 use Rattle.register.specs.Ledger.{lineAt, withLine, lineLast}
-use Rattle.register.specs.Charges.{discharged}
-use Rattle.register.specs.Order.{amountOk, accountOk, lineOk}
+use Rattle.parts.specs.Charges.{discharged}
+use Rattle.parts.specs.Accounts.{accountOk}
+use Rattle.register.specs.Order.{amountOk, lineOk}
 use Rattle.register.specs.Sound.{Sound}
-use Rattle.register.proofs.TestLaws.{or-left}
+use Rattle.parts.proofs.TestLaws.{or-left}
 use Rattle.register.proofs.LedgerLaws.{with-length, read-back, read-other}
 use Rattle.register.proofs.LineLaws.{annual-last}
 use Rattle.register.proofs.OrderFacts.{InOrder, in-order, guarantee-le, commitment-le, on-file-ok, line-ok}

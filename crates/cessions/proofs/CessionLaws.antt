@@ -12,16 +12,16 @@ use Rattle.calendar.specs.Days.{lastDay, between}
 use Rattle.calendar.specs.ThermalYears.{thermalFirst, thermalLast}
 use Rattle.calendar.proofs.Ranges.{and-left, and-right, both, Within, within, is-between}
 use Rattle.calendar.proofs.SpanLaws.{chosen, unchosen}
-use Rattle.register.specs.declared.accounts.Account.{Account}
-use Rattle.register.specs.declared.registers.Register.{Register}
-use Rattle.register.specs.Limits.{pointCount, userCount, rowLength, mostAmount}
-use Rattle.register.specs.Registers.{State, accountAt, withAccount}
+use Rattle.parts.specs.declared.accounts.Account.{Account}
+use Rattle.parts.specs.declared.registers.Register.{Register}
+use Rattle.parts.specs.Limits.{pointCount, userCount, rowLength, mostAmount}
+use Rattle.parts.specs.Registers.{State, accountAt, withAccount}
 use Rattle.register.specs.Ledger.{lineAt}
-use Rattle.register.specs.Amounts.{spanDays}
-use Rattle.register.specs.Charges.{charge, discharged}
+use Rattle.parts.specs.Amounts.{spanDays}
+use Rattle.parts.specs.Charges.{charge, discharged}
 use Rattle.register.specs.Order.{inOrder}
-use Rattle.register.specs.Answers.{Question, numberOf}
-use Rattle.register.proofs.CalendarLaws.{year-facts}
+use Rattle.parts.specs.Answers.{Question, numberOf}
+use Rattle.parts.proofs.CalendarLaws.{year-facts}
 use Rattle.register.proofs.OrderFacts.{ordered, line-facts}
 use Rattle.register.proofs.OrderKept.{account-other}
 use Rattle.conferral.specs.Spans.{arrives, annualAnswer}

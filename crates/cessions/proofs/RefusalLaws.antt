@@ -8,13 +8,13 @@ use mathlib.Core.List.{List, [], _∷_}
 use Prim.Native.Nat.{ℕ, suc, _+_, _≤_, _<_}
 use native.Mathlib.Omega.{arith}
 use borrow.Author.Tests.{leb-false, not-false}
-use Rattle.register.specs.Limits.{lineCount}
-use Rattle.register.specs.Registers.{State}
-use Rattle.register.specs.Amounts.{spanDays}
+use Rattle.parts.specs.Limits.{lineCount}
+use Rattle.parts.specs.Registers.{State}
+use Rattle.parts.specs.Amounts.{spanDays}
 use Rattle.register.specs.Order.{inOrder}
-use Rattle.register.specs.Answers.{Question, _asks_, numberOf}
-use Rattle.register.proofs.TestLaws.{fails-at}
-use Rattle.register.proofs.QuestionLaws.{numberAt, lone, RefusedAt, refused-at}
+use Rattle.parts.specs.Answers.{Question, _asks_, numberOf}
+use Rattle.parts.proofs.TestLaws.{fails-at}
+use Rattle.parts.proofs.QuestionLaws.{numberAt, lone, RefusedAt, refused-at}
 use Rattle.holdings.specs.Holdings.{tooLittle, holdsOn, holdsThroughout}
 use Rattle.cessions.specs.declared.ceding.Cession.{Cession}
 use Rattle.cessions.specs.CedeCapacity.{giverOf, receiverOf, spanFirst, spanLast, givenOf, chargeOf, cessionQuestions, cessionNumber}

@@ -7,17 +7,19 @@ use lib.Dec.{leb, ltb, eqb}
 use lib.IntN.{ℤ, pos, negℤ}
 use Rattle.calendar.specs.Days.{between}
 use Rattle.calendar.specs.Deadlines.{inTimeOwn}
-use Rattle.register.specs.declared.points.Point.{Point}
-use Rattle.register.specs.declared.accounts.Account.{Account}
+use Rattle.parts.specs.declared.points.Point.{Point}
+use Rattle.parts.specs.declared.accounts.Account.{Account}
 use Rattle.register.specs.declared.ledger.Line.{Line}
-use Rattle.register.specs.declared.registers.Register.{Register}
-use Rattle.register.specs.Limits.{pointCount, userCount, mostAmount}
-use Rattle.register.specs.Registers.{State, state, pointAt, accountAt, withLines, withAccount}
+use Rattle.parts.specs.declared.registers.Register.{Register}
+use Rattle.parts.specs.Limits.{pointCount, userCount, mostAmount}
+use Rattle.parts.specs.Registers.{State, state, pointAt, accountAt, withLines, withAccount}
 use Rattle.register.specs.Ledger.{withLine}
-use Rattle.register.specs.Amounts.{spanDays}
-use Rattle.register.specs.Charges.{charge, discharged}
-use Rattle.register.specs.Order.{isOpen, isOnFile, inOrder}
-use Rattle.register.specs.Answers.{numberOfRefusal, Question, _asks_, numberOf, leaves}
+use Rattle.parts.specs.Amounts.{spanDays}
+use Rattle.parts.specs.Charges.{charge, discharged}
+use Rattle.parts.specs.Points.{isOpen}
+use Rattle.parts.specs.Accounts.{isOnFile}
+use Rattle.register.specs.Order.{inOrder}
+use Rattle.parts.specs.Answers.{numberOfRefusal, Question, _asks_, numberOf, leaves}
 use Rattle.conferral.specs.Spans.{annualFirst, annualLast, spanOk}
 use Rattle.conferral.specs.Bookings.{covers, linesLeft, withCharge}
 use Rattle.holdings.specs.declared.holdings.Holding.{Holding}

@@ -6,10 +6,10 @@ use mathlib.Core.Bool.{true}
 use mathlib.Core.List.{List}
 use Rattle.calendar.specs.declared.thermal_years.Span.{Span}
 use Rattle.calendar.specs.ThermalYears.{inThermalYear}
-use Rattle.register.specs.declared.registers.Register.{Register}
-use Rattle.register.specs.Limits.{lineCount}
+use Rattle.parts.specs.declared.registers.Register.{Register}
+use Rattle.parts.specs.Limits.{lineCount}
 use Rattle.register.specs.Ledger.{lineAt}
-use Rattle.register.specs.Answers.{numberOfRefusal, Question, numberOf}
+use Rattle.parts.specs.Answers.{numberOfRefusal, Question, numberOf}
 use Rattle.conferral.specs.Spans.{annualFirst, annualLast, spanOk, spanWhere}
 use Rattle.cessions.specs.declared.ceding.Cession.{Cession}
 use Rattle.cessions.specs.declared.ceding.Handover.{Handover}

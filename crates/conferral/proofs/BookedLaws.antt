@@ -14,18 +14,19 @@ use mir.Val.{SFits}
 use Rattle.calendar.specs.Days.{between}
 use Rattle.calendar.specs.ThermalYears.{isThermalYear, inThermalYear, thermalFirst, thermalLast}
 use Rattle.calendar.proofs.Ranges.{and-right, within, is-between}
-use Rattle.register.specs.declared.points.Point.{Point}
-use Rattle.register.specs.declared.accounts.Account.{Account}
+use Rattle.parts.specs.declared.points.Point.{Point}
+use Rattle.parts.specs.declared.accounts.Account.{Account}
 use Rattle.register.specs.declared.ledger.Line.{Line}
-use Rattle.register.specs.Limits.{pointCount, rowLength, mostAmount}
-use Rattle.register.specs.Registers.{State, pointAt, accountAt, absentUser}
+use Rattle.parts.specs.Limits.{pointCount, rowLength, mostAmount}
+use Rattle.parts.specs.Registers.{State, pointAt, accountAt, absentUser}
 use Rattle.register.specs.Ledger.{lineAt, withLine, lineLast}
-use Rattle.register.specs.Amounts.{entryAt, entryOf, freeOn}
-use Rattle.register.specs.Order.{isMonthFirst, amountOk, accountOk, lineOk}
+use Rattle.parts.specs.Amounts.{entryAt, entryOf, freeOn}
+use Rattle.parts.specs.Accounts.{accountOk}
+use Rattle.register.specs.Order.{isMonthFirst, amountOk, lineOk}
 use Rattle.register.specs.Sound.{Sound}
 use Rattle.register.proofs.LedgerLaws.{with-length, read-back, read-other}
-use Rattle.register.proofs.CalendarLaws.{year-facts}
-use Rattle.register.proofs.AmountLaws.{taken-length, taken-in, taken-out, each-place, taken-le}
+use Rattle.parts.proofs.CalendarLaws.{year-facts}
+use Rattle.parts.proofs.AmountLaws.{taken-length, taken-in, taken-out, each-place, taken-le}
 use Rattle.register.proofs.OrderFacts.{InOrder, ordered, in-order, guarantee-le, on-file-ok, line-ok}
 use Rattle.register.proofs.OrderKept.{set-keeps, account-same, account-other, field-kept, line-carry}
 use Rattle.conferral.specs.declared.bookings.Grant.{Grant}

@@ -10,17 +10,17 @@ use lib.Dec.{leb}
 use borrow.Author.Tests.{ltb-true, leb-true, leb-false, lt-ltb, le-leb}
 use Rattle.calendar.specs.ThermalYears.{isThermalYear, inThermalYear, thermalFirst, thermalLast}
 use Rattle.calendar.proofs.Ranges.{and-left, and-right, both, Within, within, is-between}
-use Rattle.register.specs.declared.accounts.Account.{Account}
+use Rattle.parts.specs.declared.accounts.Account.{Account}
 use Rattle.register.specs.declared.ledger.Line.{Line}
-use Rattle.register.specs.declared.registers.Register.{Register}
-use Rattle.register.specs.Limits.{pointCount, userCount, lineCount, rowLength, mostAmount}
-use Rattle.register.specs.Registers.{State, state, accountAt, withCommitment, withLines}
+use Rattle.parts.specs.declared.registers.Register.{Register}
+use Rattle.parts.specs.Limits.{pointCount, userCount, lineCount, rowLength, mostAmount}
+use Rattle.parts.specs.Registers.{State, state, accountAt, withCommitment, withLines}
 use Rattle.register.specs.Ledger.{withLine}
-use Rattle.register.specs.Amounts.{entryIn, taken}
-use Rattle.register.specs.Charges.{charge, mostWord, chargeWord, charged}
-use Rattle.register.proofs.TestLaws.{every-at}
-use Rattle.register.proofs.CalendarLaws.{year-facts}
-use Rattle.register.proofs.AmountLaws.{entry-in}
+use Rattle.parts.specs.Amounts.{entryIn, taken}
+use Rattle.parts.specs.Charges.{charge, mostWord, chargeWord, charged}
+use Rattle.parts.proofs.TestLaws.{every-at}
+use Rattle.parts.proofs.CalendarLaws.{year-facts}
+use Rattle.parts.proofs.AmountLaws.{entry-in}
 use Rattle.conferral.specs.declared.bookings.Grant.{Grant}
 use Rattle.conferral.specs.Spans.{spanFits}
 use Rattle.conferral.specs.Bookings.{covers, linesLeft, daysOf, chargeOf, committed, withCharge, lineOf, booked, limitTests, withinLimits, isCovered, hasRoom, bookAfter}

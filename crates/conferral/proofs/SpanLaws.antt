@@ -14,7 +14,7 @@ use Rattle.calendar.specs.Deadlines.{nextFirst, inTimeOwn, inTimePreceding}
 use Rattle.calendar.specs.Answers.{dayIn, nextFirstAnswer, ownAnswer, precedingAnswer}
 use Rattle.calendar.proofs.Ranges.{and-left, and-right, both, within}
 use Rattle.calendar.proofs.DateLaws.{month-next}
-use Rattle.register.proofs.CalendarLaws.{year-facts}
+use Rattle.parts.proofs.CalendarLaws.{year-facts}
 use Rattle.conferral.specs.Spans.{arrives, spanFits, spanInYear, spanOk, spanWhere, annualAnswer, isTimely}
 use Rattle.conferral.specs.Steps.{spanFrom}
 

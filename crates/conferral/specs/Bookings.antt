@@ -6,15 +6,15 @@ use mathlib.Core.List.{List, [], _∷_}
 use lib.Dec.{leb, ltb}
 use lib.IntN.{pos}
 use Rattle.calendar.specs.Days.{between}
-use Rattle.register.specs.declared.accounts.Account.{Account}
+use Rattle.parts.specs.declared.accounts.Account.{Account}
 use Rattle.register.specs.declared.ledger.Line.{Line}
-use Rattle.register.specs.declared.registers.Register.{Register}
-use Rattle.register.specs.Limits.{pointCount, userCount, lineCount, mostAmount}
-use Rattle.register.specs.Tests.{every}
-use Rattle.register.specs.Registers.{State, state, pointAt, accountAt, withCommitment, withLines, withAccount}
+use Rattle.parts.specs.declared.registers.Register.{Register}
+use Rattle.parts.specs.Limits.{pointCount, userCount, lineCount, mostAmount}
+use Rattle.parts.specs.Tests.{every}
+use Rattle.parts.specs.Registers.{State, state, pointAt, accountAt, withCommitment, withLines, withAccount}
 use Rattle.register.specs.Ledger.{withLine}
-use Rattle.register.specs.Amounts.{spanDays, entryOf, taken}
-use Rattle.register.specs.Charges.{charge}
+use Rattle.parts.specs.Amounts.{spanDays, entryOf, taken}
+use Rattle.parts.specs.Charges.{charge}
 use Rattle.conferral.specs.declared.bookings.Grant.{Grant}
 use Rattle.conferral.specs.Spans.{spanInYear}
 

@@ -9,18 +9,19 @@ use native.Mathlib.Decide.{ℕ-discrete}
 use native.Mathlib.Nat.{not-suc-le-zero, zero-add}
 use native.Mathlib.Omega.{arith}
 use lib.ListN.{getD, set, length, length-set, length-replicate}
-use Rattle.register.specs.declared.points.Point.{Point}
-use Rattle.register.specs.declared.accounts.Account.{Account}
-use Rattle.register.specs.Limits.{pointCount, userCount, rowLength, ledgerLength}
-use Rattle.register.specs.Ranges.{replaced}
-use Rattle.register.specs.Registers.{State, pointAt, accountAt, closedPoint, absentUser, point, withCommitment}
+use Rattle.parts.specs.declared.points.Point.{Point}
+use Rattle.parts.specs.declared.accounts.Account.{Account}
+use Rattle.parts.specs.Limits.{pointCount, userCount, rowLength, ledgerLength}
+use Rattle.parts.specs.Ranges.{replaced}
+use Rattle.parts.specs.Registers.{State, pointAt, accountAt, closedPoint, absentUser, point, withCommitment}
 use Rattle.register.specs.Ledger.{lineAt}
-use Rattle.register.specs.Amounts.{yearDays, entryAt, capacity, freedRow}
-use Rattle.register.specs.Order.{pointOk, accountOk}
+use Rattle.parts.specs.Amounts.{yearDays, entryAt, capacity, freedRow}
+use Rattle.parts.specs.Points.{pointOk}
+use Rattle.parts.specs.Accounts.{accountOk}
 use Rattle.register.specs.Sound.{Sound}
-use Rattle.register.proofs.RangeLaws.{replaced-length, replaced-in}
-use Rattle.register.proofs.AmountLaws.{row-length, row-in, row-out, table-length, table-at}
-use Rattle.register.proofs.AnswerLaws.{leaves-either}
+use Rattle.parts.proofs.RangeLaws.{replaced-length, replaced-in}
+use Rattle.parts.proofs.AmountLaws.{row-length, row-in, row-out, table-length, table-at}
+use Rattle.parts.proofs.AnswerLaws.{leaves-either}
 use Rattle.register.proofs.OrderFacts.{InOrder, in-order, open-ok, Absent, OnFile, account-is, absent-ok, on-file-ok}
 use Rattle.register.proofs.OrderKept.{set-keeps, point-same, point-other, line-carry}
 use Rattle.filing.specs.OpenPoint.{openNumber, opened, openAfter}

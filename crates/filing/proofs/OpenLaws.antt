@@ -7,13 +7,13 @@ use Prim.Native.Nat.{ℕ, _<_}
 use lib.Dec.{ltb}
 use borrow.Author.Tests.{ltb-true, not-true}
 use Rattle.calendar.proofs.Ranges.{and-left, and-right}
-use Rattle.register.specs.declared.registers.Register.{Register}
-use Rattle.register.specs.Limits.{pointCount}
-use Rattle.register.specs.Tests.{every}
-use Rattle.register.specs.Registers.{State, state, pointAt, point, withPoint}
-use Rattle.register.specs.Amounts.{yearDays, freedRow}
-use Rattle.register.specs.Order.{isOpen, openTests}
-use Rattle.register.proofs.AnswerLaws.{passes, leaves-new, leaves-old}
+use Rattle.parts.specs.declared.registers.Register.{Register}
+use Rattle.parts.specs.Limits.{pointCount}
+use Rattle.parts.specs.Tests.{every}
+use Rattle.parts.specs.Registers.{State, state, pointAt, point, withPoint}
+use Rattle.parts.specs.Amounts.{yearDays, freedRow}
+use Rattle.parts.specs.Points.{isOpen, openTests}
+use Rattle.parts.proofs.AnswerLaws.{passes, leaves-new, leaves-old}
 use Rattle.register.proofs.OrderFacts.{InOrder, ordered, Open, open-facts}
 use Rattle.filing.specs.OpenPoint.{openFields, openQuestions, openNumber, opened, openAfter}
 

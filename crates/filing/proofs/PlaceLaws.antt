@@ -6,10 +6,10 @@ use Prim.Native.Nat.{ℕ, _≤_, _<_}
 use lib.Dec.{leb, ltb}
 use borrow.Author.Tests.{ltb-true, leb-true}
 use Rattle.calendar.proofs.Ranges.{and-left, and-right}
-use Rattle.register.specs.declared.registers.Register.{Register}
-use Rattle.register.specs.Limits.{userCount, mostGuarantee}
-use Rattle.register.specs.Registers.{State, state, accountAt, withAccount}
-use Rattle.register.proofs.AnswerLaws.{passes, leaves-new, leaves-old}
+use Rattle.parts.specs.declared.registers.Register.{Register}
+use Rattle.parts.specs.Limits.{userCount, mostGuarantee}
+use Rattle.parts.specs.Registers.{State, state, accountAt, withAccount}
+use Rattle.parts.proofs.AnswerLaws.{passes, leaves-new, leaves-old}
 use Rattle.register.proofs.OrderFacts.{InOrder, ordered}
 use Rattle.filing.specs.PlaceGuarantee.{placeFields, placeQuestions, placeNumber, pledged, placed, placeAfter}
 

@@ -7,11 +7,11 @@ use Prim.Native.Nat.{ℕ, _<_}
 use lib.ListN.{length, replicate}
 use borrow.Author.Tests.{ltb-true}
 use Rattle.calendar.specs.ThermalYears.{isThermalYear}
-use Rattle.register.specs.declared.registers.Register.{Register}
-use Rattle.register.specs.Registers.{State, state}
-use Rattle.register.specs.Amounts.{daysOfYear, freedTable}
-use Rattle.register.proofs.AnswerLaws.{passes, leaves-new, leaves-old}
-use Rattle.register.proofs.AmountLaws.{days-of}
+use Rattle.parts.specs.declared.registers.Register.{Register}
+use Rattle.parts.specs.Registers.{State, state}
+use Rattle.parts.specs.Amounts.{daysOfYear, freedTable}
+use Rattle.parts.proofs.AnswerLaws.{passes, leaves-new, leaves-old}
+use Rattle.parts.proofs.AmountLaws.{days-of}
 use Rattle.register.proofs.OrderFacts.{InOrder, ordered}
 use Rattle.filing.specs.TurnYear.{turnQuestions, turnNumber, turnedRegister, turned, turnAfter}
 

@@ -4,12 +4,13 @@ use Prim.Native.Nat.{ℕ}
 use mathlib.Core.Bool.{Bool, not, _&&_}
 use mathlib.Core.List.{List, [], _∷_}
 use lib.Dec.{ltb}
-use Rattle.register.specs.Limits.{pointCount}
-use Rattle.register.specs.Tests.{every}
-use Rattle.register.specs.Registers.{State, state, pointAt, point, withPoint}
-use Rattle.register.specs.Amounts.{yearDays, freedRow}
-use Rattle.register.specs.Order.{isOpen, openTests, inOrder}
-use Rattle.register.specs.Answers.{Question, _asks_, numberOf, leaves}
+use Rattle.parts.specs.Limits.{pointCount}
+use Rattle.parts.specs.Tests.{every}
+use Rattle.parts.specs.Registers.{State, state, pointAt, point, withPoint}
+use Rattle.parts.specs.Amounts.{yearDays, freedRow}
+use Rattle.parts.specs.Points.{isOpen, openTests}
+use Rattle.register.specs.Order.{inOrder}
+use Rattle.parts.specs.Answers.{Question, _asks_, numberOf, leaves}
 
 -- question 2: "point 0 to 31, [..] total 1 to 9,999,999, [..] kinds, rate"
 abbrev pub openFields : ℕ → ℕ → ℕ → ℕ → Bool

@@ -4,11 +4,11 @@ use Prim.Native.Nat.{ℕ}
 use mathlib.Core.Bool.{Bool, _&&_}
 use mathlib.Core.List.{List, [], _∷_}
 use lib.Dec.{leb, ltb}
-use Rattle.register.specs.declared.accounts.Account.{Account}
-use Rattle.register.specs.Limits.{userCount, mostGuarantee}
-use Rattle.register.specs.Registers.{State, state, accountAt, withOnFile, withGuarantee, withAccount}
+use Rattle.parts.specs.declared.accounts.Account.{Account}
+use Rattle.parts.specs.Limits.{userCount, mostGuarantee}
+use Rattle.parts.specs.Registers.{State, state, accountAt, withOnFile, withGuarantee, withAccount}
 use Rattle.register.specs.Order.{inOrder}
-use Rattle.register.specs.Answers.{Question, _asks_, numberOf, leaves}
+use Rattle.parts.specs.Answers.{Question, _asks_, numberOf, leaves}
 
 -- question 2: "users 0 to 63, [..] guarantee"
 abbrev pub placeFields : ℕ → ℕ → Bool

@@ -4,15 +4,15 @@ use Prim.Native.Nat.{ℕ}
 use mathlib.Core.List.{List, [], _∷_}
 use lib.Dec.{ltb}
 use Rattle.calendar.specs.ThermalYears.{isThermalYear}
-use Rattle.register.specs.declared.accounts.Account.{Account}
-use Rattle.register.specs.declared.registers.Register.{Register}
-use Rattle.register.specs.Limits.{userCount}
-use Rattle.register.specs.Ranges.{replaced}
-use Rattle.register.specs.Registers.{State, state, accountAt, withCommitment, withYear, withAccounts, withLines}
+use Rattle.parts.specs.declared.accounts.Account.{Account}
+use Rattle.parts.specs.declared.registers.Register.{Register}
+use Rattle.parts.specs.Limits.{userCount}
+use Rattle.parts.specs.Ranges.{replaced}
+use Rattle.parts.specs.Registers.{State, state, accountAt, withCommitment, withYear, withAccounts, withLines}
 use Rattle.register.specs.Ledger.{emptyLedger}
-use Rattle.register.specs.Amounts.{yearDays, freedTable}
+use Rattle.parts.specs.Amounts.{yearDays, freedTable}
 use Rattle.register.specs.Order.{inOrder}
-use Rattle.register.specs.Answers.{Question, _asks_, numberOf, leaves}
+use Rattle.parts.specs.Answers.{Question, _asks_, numberOf, leaves}
 
 -- questions 1, 2 ("Y") and 15: "Is the new year later?"
 abbrev pub turnQuestions : State → ℕ → List Question

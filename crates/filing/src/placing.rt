@@ -1,9 +1,9 @@
 // Place guarantee.
 ghost use mathlib.Core.Path.{_≡_};
 ghost use Prim.Native.Nat.{_<_};
-ghost use Rattle.register.specs.Limits.{userCount};
-ghost use Rattle.register.specs.Registers.{state, accountAt, withAccount};
-ghost use Rattle.register.specs.Answers.{numberOfVerdict};
+ghost use Rattle.parts.specs.Limits.{userCount};
+ghost use Rattle.parts.specs.Registers.{state, accountAt, withAccount};
+ghost use Rattle.parts.specs.Answers.{numberOfVerdict};
 ghost use Rattle.filing.specs.PlaceGuarantee.{placeNumber, pledged, placeAfter};
 use register::Filed;
 use register::Refusal;

@@ -1,7 +1,7 @@
 // Turn the year.
 ghost use mathlib.Core.Path.{_≡_};
-ghost use Rattle.register.specs.Registers.{state};
-ghost use Rattle.register.specs.Answers.{numberOfVerdict};
+ghost use Rattle.parts.specs.Registers.{state};
+ghost use Rattle.parts.specs.Answers.{numberOfVerdict};
 ghost use Rattle.filing.specs.TurnYear.{turnNumber, settledAccounts, turnedRegister, turnAfter};
 use register::Account;
 use register::Filed;

@@ -12,11 +12,11 @@ use native.Mathlib.Omega.{arith}
 use lib.IntN.{ℤ, pos}
 use lib.Signed.{ltZ}
 use Rattle.calendar.specs.ThermalYears.{inThermalYear}
-use Rattle.register.specs.Limits.{lineCount}
-use Rattle.register.specs.Tests.{allBelow}
+use Rattle.parts.specs.Limits.{lineCount}
+use Rattle.parts.specs.Tests.{allBelow}
 use Rattle.register.specs.Ledger.{lineAt}
-use Rattle.register.specs.Amounts.{spanDays}
-use Rattle.register.proofs.TestLaws.{all-none, all-same}
+use Rattle.parts.specs.Amounts.{spanDays}
+use Rattle.parts.proofs.TestLaws.{all-none, all-same}
 use Rattle.holdings.specs.declared.holdings.Holding.{Holding}
 use Rattle.holdings.specs.declared.holdings.Held.{Held}
 use Rattle.holdings.specs.declared.holdings.Held.the-variants.{Throughout, ShortOn}

@@ -12,7 +12,7 @@ use lib.Signed.{mag}
 use mir.Syntax.{w64}
 use mir.Val.{SFits, toZ, ofZ}
 use mir.Facts.{toZ-ofZ}
-use Rattle.register.specs.Limits.{lineCount}
+use Rattle.parts.specs.Limits.{lineCount}
 use Rattle.holdings.specs.Holdings.{signedSum}
 
 -- the sum of no numbers, of one more, and of the same numbers

@@ -10,10 +10,10 @@ use lib.Signed.{ltZ}
 use Rattle.calendar.specs.Days.{between}
 use Rattle.calendar.specs.ThermalYears.{inThermalYear}
 use Rattle.register.specs.declared.ledger.Line.{Line}
-use Rattle.register.specs.Limits.{lineCount}
-use Rattle.register.specs.Tests.{allBelow}
+use Rattle.parts.specs.Limits.{lineCount}
+use Rattle.parts.specs.Tests.{allBelow}
 use Rattle.register.specs.Ledger.{lineAt, lineLast}
-use Rattle.register.specs.Amounts.{spanDays}
+use Rattle.parts.specs.Amounts.{spanDays}
 use Rattle.holdings.specs.declared.holdings.Holding.{Holding}
 use Rattle.holdings.specs.declared.holdings.Held.{Held}
 use Rattle.holdings.specs.declared.holdings.Held.the-variants.{Throughout, ShortOn}

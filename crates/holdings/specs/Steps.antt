@@ -12,7 +12,7 @@ use Rattle.calendar.specs.Days.{between}
 use Rattle.calendar.specs.ThermalYears.{isThermalYear, thermalFirst, thermalLast}
 use Rattle.calendar.specs.Deadlines.{nextFirst}
 use Rattle.register.specs.declared.ledger.Line.{Line}
-use Rattle.register.specs.Limits.{lineCount}
+use Rattle.parts.specs.Limits.{lineCount}
 use Rattle.holdings.specs.declared.ends.Bounds.{Bounds}
 use Rattle.holdings.specs.declared.holdings.Holding.{Holding}
 use Rattle.holdings.specs.declared.gathering.Cover.{Cover}

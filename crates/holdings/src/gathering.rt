@@ -4,7 +4,7 @@ ghost use Prim.Native.Nat.{_≤_, _<_};
 ghost use lib.Signed.{mag};
 ghost use Rattle.calendar.specs.Days.{lastDay};
 ghost use Rattle.calendar.specs.Deadlines.{nextFirst};
-ghost use Rattle.register.specs.Limits.{lineCount};
+ghost use Rattle.parts.specs.Limits.{lineCount};
 ghost use Rattle.holdings.specs.Steps.{isGathered, coverOf, coverOn, Gathers};
 use crate::ends::Bounds;
 use crate::ends::bounds_of;

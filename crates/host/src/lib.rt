@@ -2,7 +2,7 @@
 //
 // The register is passed by value; the free amounts and the ledger are slices, each a pointer and a length.
 ghost use mathlib.Core.Path.{_≡_};
-ghost use Rattle.register.specs.Registers.{state};
+ghost use Rattle.parts.specs.Registers.{state};
 ghost use Rattle.register.specs.Order.{inOrder};
 ghost use Rattle.holdings.specs.Holdings.{heldAnswer, shortDay};
 use holdings::Held;

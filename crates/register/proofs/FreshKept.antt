@@ -8,10 +8,12 @@ use native.Mathlib.Nat.{not-suc-le-zero}
 use native.Mathlib.Omega.{arith}
 use lib.ListN.{getD, length-replicate, getD-replicate}
 use Rattle.calendar.specs.ThermalYears.{isThermalYear}
-use Rattle.register.specs.Limits.{pointCount, userCount, tableLength, ledgerLength}
-use Rattle.register.specs.Registers.{state, closedPoint, absentUser, blankRegister}
-use Rattle.register.specs.Amounts.{entryAt, zeroTable}
-use Rattle.register.specs.Order.{pointOk, accountOk, inOrder}
+use Rattle.parts.specs.Limits.{pointCount, userCount, tableLength, ledgerLength}
+use Rattle.parts.specs.Registers.{state, closedPoint, absentUser, blankRegister}
+use Rattle.parts.specs.Amounts.{entryAt, zeroTable}
+use Rattle.parts.specs.Points.{pointOk}
+use Rattle.parts.specs.Accounts.{accountOk}
+use Rattle.register.specs.Order.{inOrder}
 use Rattle.register.specs.Fresh.{freshState}
 use Rattle.register.specs.Sound.{Sized, Sound}
 use Rattle.register.proofs.OrderFacts.{InOrder, in-order}

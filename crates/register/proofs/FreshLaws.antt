@@ -7,11 +7,11 @@ use Prim.Native.Nat.{ℕ}
 use lib.ListN.{length, replicate}
 use borrow.Author.Tests.{eqb-true}
 use Rattle.calendar.specs.ThermalYears.{isThermalYear}
-use Rattle.register.specs.declared.registers.Register.{Register}
-use Rattle.register.specs.Limits.{tableLength, ledgerLength}
-use Rattle.register.specs.Registers.{state, blankRegister}
+use Rattle.parts.specs.declared.registers.Register.{Register}
+use Rattle.parts.specs.Limits.{tableLength, ledgerLength}
+use Rattle.parts.specs.Registers.{state, blankRegister}
 use Rattle.register.specs.Fresh.{freshQuestions, freshNumber, freshState, freshAfter}
-use Rattle.register.proofs.AnswerLaws.{passes, leaves-new, leaves-old}
+use Rattle.parts.proofs.AnswerLaws.{passes, leaves-new, leaves-old}
 
 module _ (y : ℕ) (f ls : List ℕ) where
   -- what an accepted one tells

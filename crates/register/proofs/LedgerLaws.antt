@@ -13,7 +13,7 @@ use mir.Syntax.{w32}
 use mir.Val.{SFits}
 use mir.Facts.{toZ-ofZ}
 use Rattle.register.specs.declared.ledger.Line.{Line}
-use Rattle.register.specs.Limits.{lineLength}
+use Rattle.parts.specs.Limits.{lineLength}
 use Rattle.register.specs.Ledger.{Holds, signedOf, bitsOf, hasLine, fieldsAt, withFields, lineAt, withLine}
 
 -- the test of a line is true just where the line lies in the list

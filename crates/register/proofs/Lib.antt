@@ -1,16 +1,9 @@
-pub mod TestLaws
-pub mod RangeLaws
 pub mod SignLaws
 pub mod LedgerLaws
-pub mod CalendarLaws
-pub mod AmountLaws
 pub mod OrderLaws
 pub mod OrderFacts
 pub mod OrderKept
-pub mod AnswerLaws
-pub mod QuestionLaws
 pub mod FreshLaws
 pub mod ReportLaws
 pub mod FreshKept
-pub mod ChargeLaws
 pub mod LineLaws

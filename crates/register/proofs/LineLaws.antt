@@ -13,13 +13,13 @@ use Rattle.calendar.proofs.Ranges.{Within, Month, ThermalMonth}
 use Rattle.calendar.proofs.DateLaws.{month-least, month-after}
 use Rattle.calendar.proofs.ThermalYearLaws.{calendar-month, month-days, thermal-month-to}
 use Rattle.calendar.proofs.DeadlineLaws.{next-of}
-use Rattle.register.specs.declared.points.Point.{Point}
-use Rattle.register.specs.declared.accounts.Account.{Account}
+use Rattle.parts.specs.declared.points.Point.{Point}
+use Rattle.parts.specs.declared.accounts.Account.{Account}
 use Rattle.register.specs.declared.ledger.Line.{Line}
 use Rattle.register.specs.Ledger.{lineLast}
 use Rattle.register.specs.Order.{opensMonth, isMonthFirst}
-use Rattle.register.proofs.TestLaws.{some-at}
-use Rattle.register.proofs.CalendarLaws.{thermal-year}
+use Rattle.parts.proofs.TestLaws.{some-at}
+use Rattle.parts.proofs.CalendarLaws.{thermal-year}
 use Rattle.register.proofs.OrderFacts.{LineFacts}
 
 -- "annual lines end with the year"

@@ -11,18 +11,20 @@ use lib.ListN.{getD, length}
 use borrow.Author.Tests.{ltb-true, leb-true, eqb-true, lt-ltb, le-leb, eq-eqb}
 use Rattle.calendar.specs.ThermalYears.{isThermalYear, thermalFirst, thermalLast}
 use Rattle.calendar.proofs.Ranges.{and-left, and-right, both, Within, within, is-between}
-use Rattle.register.specs.declared.points.Point.{Point}
-use Rattle.register.specs.declared.accounts.Account.{Account}
+use Rattle.parts.specs.declared.points.Point.{Point}
+use Rattle.parts.specs.declared.accounts.Account.{Account}
 use Rattle.register.specs.declared.ledger.Line.{Line}
-use Rattle.register.specs.Limits.{pointCount, userCount, lineCount, rowLength, tableLength, ledgerLength, mostAmount, mostRate, mostGuarantee}
-use Rattle.register.specs.Tests.{every}
-use Rattle.register.specs.Registers.{State, pointAt, accountAt}
+use Rattle.parts.specs.Limits.{pointCount, userCount, lineCount, rowLength, tableLength, ledgerLength, mostAmount, mostRate, mostGuarantee}
+use Rattle.parts.specs.Tests.{every}
+use Rattle.parts.specs.Registers.{State, pointAt, accountAt}
 use Rattle.register.specs.Ledger.{lineAt}
-use Rattle.register.specs.Amounts.{yearDays, entryAt, capacity}
-use Rattle.register.specs.Order.{closedTests, openTests, pointOk, absentTests, onFileTests, accountOk, amountFits, isMonthFirst, amountOk, lineTests, namesOk, lineOk, pointTest, pointsOk, accountTest, accountsOk, rowTest, tableOk, lineTest, linesOk, lengthsOk, orderTests, inOrder}
-use Rattle.register.proofs.TestLaws.{or-cases, or-left, or-right, every-at, all-at, all-of}
+use Rattle.parts.specs.Amounts.{yearDays, entryAt, capacity}
+use Rattle.parts.specs.Points.{closedTests, openTests, pointOk}
+use Rattle.parts.specs.Accounts.{absentTests, onFileTests, accountOk}
+use Rattle.register.specs.Order.{amountFits, isMonthFirst, amountOk, lineTests, namesOk, lineOk, pointTest, pointsOk, accountTest, accountsOk, rowTest, tableOk, lineTest, linesOk, lengthsOk, orderTests, inOrder}
+use Rattle.parts.proofs.TestLaws.{or-cases, or-left, or-right, every-at, all-at, all-of}
 use Rattle.register.proofs.OrderLaws.{lengths-table, lengths-ledger, lengths-lines, names-user, names-point}
-use Rattle.register.proofs.AmountLaws.{capacity-le, capacity-out}
+use Rattle.parts.proofs.AmountLaws.{capacity-le, capacity-out}
 
 -- ---- in order, as a record
 pub record InOrder (s : State) : Type 0 where

@@ -8,10 +8,10 @@ use native.Mathlib.Decide.{ℕ-discrete, decLt}
 use native.Mathlib.Omega.{arith}
 use lib.ListN.{getD, set, length}
 use lib.Seq.{getD-set-same, getD-set-other, set-out}
-use Rattle.register.specs.declared.points.Point.{Point}
-use Rattle.register.specs.declared.accounts.Account.{Account}
+use Rattle.parts.specs.declared.points.Point.{Point}
+use Rattle.parts.specs.declared.accounts.Account.{Account}
 use Rattle.register.specs.declared.ledger.Line.{Line}
-use Rattle.register.specs.Registers.{pointAt, accountAt, closedPoint, absentUser}
+use Rattle.parts.specs.Registers.{pointAt, accountAt, closedPoint, absentUser}
 use Rattle.register.specs.Order.{lineOk}
 use Rattle.register.proofs.OrderFacts.{line-facts, line-ok}
 

@@ -15,20 +15,22 @@ use Rattle.calendar.specs.ThermalYears.{isThermalYear, YearSpan, isThermalMonth
 use Rattle.calendar.proofs.Ranges.{and-left, and-right, both, Within, within, is-between, ThermalMonth}
 use Rattle.calendar.proofs.DateLaws.{month-least}
 use Rattle.calendar.proofs.ThermalYearLaws.{month-days, thermal-month-from, thermal-month-to}
-use Rattle.register.specs.declared.points.Point.{Point}
-use Rattle.register.specs.declared.accounts.Account.{Account}
+use Rattle.parts.specs.declared.points.Point.{Point}
+use Rattle.parts.specs.declared.accounts.Account.{Account}
 use Rattle.register.specs.declared.ledger.Line.{Line}
-use Rattle.register.specs.declared.registers.Register.{Register}
-use Rattle.register.specs.Limits.{pointCount, userCount, lineCount, rowLength, tableLength, ledgerLength}
-use Rattle.register.specs.Tests.{allBelow, someBelow, every}
-use Rattle.register.specs.Registers.{State, pointAt, accountAt}
+use Rattle.parts.specs.declared.registers.Register.{Register}
+use Rattle.parts.specs.Limits.{pointCount, userCount, lineCount, rowLength, tableLength, ledgerLength}
+use Rattle.parts.specs.Tests.{allBelow, someBelow, every}
+use Rattle.parts.specs.Registers.{State, pointAt, accountAt}
 use Rattle.register.specs.Ledger.{lineAt}
-use Rattle.register.specs.Amounts.{yearDays, entryAt, capacity}
-use Rattle.register.specs.Order.{isOnFile, isOpen, amountOk, amountFits, rowOk, opensMonth, isMonthFirst, namesOk, lineTests, lineOk, lineTest, linesOk, lengthsOk, pointsOk, accountsOk, tableOk, orderTests, inOrder}
+use Rattle.parts.specs.Amounts.{yearDays, entryAt, capacity}
+use Rattle.parts.specs.Points.{isOpen}
+use Rattle.parts.specs.Accounts.{isOnFile}
+use Rattle.register.specs.Order.{amountOk, amountFits, rowOk, opensMonth, isMonthFirst, namesOk, lineTests, lineOk, lineTest, linesOk, lengthsOk, pointsOk, accountsOk, tableOk, orderTests, inOrder}
 use Rattle.register.specs.Steps.{atMost, Marked, fieldTests, namedTests}
-use Rattle.register.proofs.TestLaws.{and-false, every-at, every-false, all-more, all-same, all-fails, some-none, some-more}
-use Rattle.register.proofs.CalendarLaws.{YearFacts, year-facts, thermal-year}
-use Rattle.register.proofs.AmountLaws.{capacity-in}
+use Rattle.parts.proofs.TestLaws.{and-false, every-at, every-false, all-more, all-same, all-fails, some-none, some-more}
+use Rattle.parts.proofs.CalendarLaws.{YearFacts, year-facts, thermal-year}
+use Rattle.parts.proofs.AmountLaws.{capacity-in}
 
 -- ---- the free amounts
 

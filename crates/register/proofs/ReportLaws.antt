@@ -9,12 +9,12 @@ use borrow.Author.Tests.{ltb-true}
 use Rattle.calendar.specs.Days.{between}
 use Rattle.calendar.specs.ThermalYears.{isThermalYear, thermalFirst, thermalLast, inThermalYear}
 use Rattle.calendar.proofs.Ranges.{and-right, Within, within}
-use Rattle.register.specs.Limits.{pointCount}
-use Rattle.register.specs.Registers.{State, pointAt}
-use Rattle.register.specs.Amounts.{entryOf, freeOn}
+use Rattle.parts.specs.Limits.{pointCount}
+use Rattle.parts.specs.Registers.{State, pointAt}
+use Rattle.parts.specs.Amounts.{entryOf, freeOn}
 use Rattle.register.specs.Reports.{reportQuestions, reportNumber, reportAmount}
-use Rattle.register.proofs.AnswerLaws.{passes, leaves-new, leaves-old}
-use Rattle.register.proofs.CalendarLaws.{year-facts}
+use Rattle.parts.proofs.AnswerLaws.{passes, leaves-new, leaves-old}
+use Rattle.parts.proofs.CalendarLaws.{year-facts}
 use Rattle.register.proofs.OrderFacts.{InOrder, ordered}
 
 -- a day of the year

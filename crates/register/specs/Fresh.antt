@@ -5,11 +5,11 @@ use mathlib.Core.List.{List, [], _∷_}
 use lib.Dec.{eqb}
 use lib.ListN.{length}
 use Rattle.calendar.specs.ThermalYears.{isThermalYear}
-use Rattle.register.specs.Limits.{tableLength, ledgerLength}
-use Rattle.register.specs.Registers.{State, state, blankRegister}
+use Rattle.parts.specs.Limits.{tableLength, ledgerLength}
+use Rattle.parts.specs.Registers.{State, state, blankRegister}
 use Rattle.register.specs.Ledger.{emptyLedger}
-use Rattle.register.specs.Amounts.{zeroTable}
-use Rattle.register.specs.Answers.{Question, _asks_, numberOf, leaves}
+use Rattle.parts.specs.Amounts.{zeroTable}
+use Rattle.parts.specs.Answers.{Question, _asks_, numberOf, leaves}
 
 -- "a year out of limits or a table of another length gives 2": so does a ledger of another length
 abbrev pub freshQuestions : ℕ → List ℕ → List ℕ → List Question

@@ -12,7 +12,7 @@ use mir.Val.{toZ, ofZ}
 use Rattle.calendar.specs.ThermalYears.{thermalLast}
 use Rattle.calendar.specs.Deadlines.{nextFirst}
 use Rattle.register.specs.declared.ledger.Line.{Line}
-use Rattle.register.specs.Limits.{lineLength, ledgerLength}
+use Rattle.parts.specs.Limits.{lineLength, ledgerLength}
 
 -- 32 bits read as a signed number (two's complement), and back
 abbrev pub signedOf : ℕ → ℤ

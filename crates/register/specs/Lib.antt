@@ -1,13 +1,6 @@
-pub mod Limits
-pub mod Tests
-pub mod Ranges
-pub mod Registers
 pub mod Ledger
-pub mod Amounts
-pub mod Charges
 pub mod Order
 pub mod Steps
-pub mod Answers
 pub mod Fresh
 pub mod Reports
 pub mod Sound

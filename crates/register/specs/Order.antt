@@ -9,47 +9,17 @@ use lib.ListN.{getD, length}
 use lib.Signed.{leZ}
 use Rattle.calendar.specs.Days.{between}
 use Rattle.calendar.specs.ThermalYears.{isThermalYear, thermalFirst, thermalLast, thermalMonthFirst}
-use Rattle.register.specs.declared.points.Point.{Point}
-use Rattle.register.specs.declared.accounts.Account.{Account}
+use Rattle.parts.specs.declared.points.Point.{Point}
+use Rattle.parts.specs.declared.accounts.Account.{Account}
 use Rattle.register.specs.declared.ledger.Line.{Line}
-use Rattle.register.specs.declared.registers.Register.{Register}
-use Rattle.register.specs.Limits.{pointCount, userCount, lineCount, rowLength, tableLength, ledgerLength, mostAmount, mostRate, mostGuarantee}
-use Rattle.register.specs.Tests.{allBelow, someBelow, every}
-use Rattle.register.specs.Registers.{State, pointAt, accountAt}
+use Rattle.parts.specs.declared.registers.Register.{Register}
+use Rattle.parts.specs.Limits.{pointCount, userCount, lineCount, rowLength, tableLength, ledgerLength, mostAmount}
+use Rattle.parts.specs.Tests.{allBelow, someBelow, every}
+use Rattle.parts.specs.Points.{isOpen, pointOk}
+use Rattle.parts.specs.Accounts.{isOnFile, accountOk}
+use Rattle.parts.specs.Registers.{State, pointAt, accountAt}
 use Rattle.register.specs.Ledger.{lineAt}
-use Rattle.register.specs.Amounts.{yearDays, entryAt, capacity}
-
--- an open point has a kind
-abbrev pub isOpen : Point → Bool
-isOpen p = ltb 0 (p .kind)
-
--- "1 direct"
-abbrev pub isDirect : Point → Bool
-isDirect p = eqb (p .kind) 1
-
--- "A point is closed, or has a kind (1 direct, 2 thermoelectric), a total of 1 to 9,999,999 and a rate of 0 to 999,999": a closed
--- one has nothing set
-abbrev pub closedTests : Point → List Bool
-closedTests p = eqb (p .kind) 0 ∷ eqb (p .total) 0 ∷ eqb (p .rate) 0 ∷ []
-
-abbrev pub openTests : Point → List Bool
-openTests p = between 1 2 (p .kind) ∷ between 1 mostAmount (p .total) ∷ leb (p .rate) mostRate ∷ []
-
-abbrev pub pointOk : Point → Bool
-pointOk p = every (closedTests p) || every (openTests p)
-
--- "A user on file has a guarantee of 0 to 10^15 and a commitment", "each commitment at most its guarantee, users not on file at 0"
-abbrev pub absentTests : Account → List Bool
-absentTests a = eqb (a .«on_file») 0 ∷ eqb (a .guarantee) 0 ∷ eqb (a .commitment) 0 ∷ []
-
-abbrev pub isOnFile : Account → Bool
-isOnFile a = eqb (a .«on_file») 1
-
-abbrev pub onFileTests : Account → List Bool
-onFileTests a = isOnFile a ∷ leb (a .guarantee) mostGuarantee ∷ leb (a .commitment) (a .guarantee) ∷ []
-
-abbrev pub accountOk : Account → Bool
-accountOk a = every (absentTests a) || every (onFileTests a)
+use Rattle.parts.specs.Amounts.{yearDays, entryAt, capacity}
 
 -- "each free amount at most its total, zeros where named": a closed point has the total 0, and after the end of a 365-day year
 -- the capacity is 0

@@ -4,11 +4,12 @@ use Prim.Native.Nat.{ℕ}
 use mathlib.Core.List.{List, [], _∷_}
 use lib.Dec.{ltb}
 use Rattle.calendar.specs.ThermalYears.{inThermalYear}
-use Rattle.register.specs.Limits.{pointCount}
-use Rattle.register.specs.Registers.{State, pointAt}
-use Rattle.register.specs.Amounts.{freeOn}
-use Rattle.register.specs.Order.{isOpen, inOrder}
-use Rattle.register.specs.Answers.{Question, _asks_, numberOf, leaves}
+use Rattle.parts.specs.Limits.{pointCount}
+use Rattle.parts.specs.Registers.{State, pointAt}
+use Rattle.parts.specs.Amounts.{freeOn}
+use Rattle.parts.specs.Points.{isOpen}
+use Rattle.register.specs.Order.{inOrder}
+use Rattle.parts.specs.Answers.{Question, _asks_, numberOf, leaves}
 
 -- questions 1, 2, 3 and 8: "A report asks only that its day lies in the year"
 abbrev pub reportQuestions : State → ℕ → ℕ → List Question

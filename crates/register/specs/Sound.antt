@@ -3,9 +3,9 @@
 use mathlib.Core.Path.{_≡_}
 use mathlib.Core.Bool.{true}
 use lib.ListN.{length}
-use Rattle.register.specs.declared.registers.Register.{Register}
-use Rattle.register.specs.Limits.{pointCount, userCount}
-use Rattle.register.specs.Registers.{State}
+use Rattle.parts.specs.declared.registers.Register.{Register}
+use Rattle.parts.specs.Limits.{pointCount, userCount}
+use Rattle.parts.specs.Registers.{State}
 use Rattle.register.specs.Order.{inOrder}
 
 -- 32 points and 64 accounts: a register of the code has them by its type

@@ -8,11 +8,13 @@ use lib.Dec.{leb, eqb}
 use lib.ListN.{getD}
 use Rattle.calendar.specs.Days.{between}
 use Rattle.calendar.specs.ThermalYears.{thermalFirst, thermalLast}
-use Rattle.register.specs.declared.points.Point.{Point}
-use Rattle.register.specs.declared.accounts.Account.{Account}
+use Rattle.parts.specs.declared.points.Point.{Point}
+use Rattle.parts.specs.declared.accounts.Account.{Account}
 use Rattle.register.specs.declared.ledger.Line.{Line}
-use Rattle.register.specs.Tests.{someBelow}
-use Rattle.register.specs.Order.{isOpen, isOnFile, opensMonth, amountOk}
+use Rattle.parts.specs.Tests.{someBelow}
+use Rattle.parts.specs.Points.{isOpen}
+use Rattle.parts.specs.Accounts.{isOnFile}
+use Rattle.register.specs.Order.{opensMonth, amountOk}
 
 -- the k-th number from `at` on is at most m
 abbrev pub atMost : List ℕ → ℕ → ℕ → ℕ → Bool

@@ -1,7 +1,7 @@
 // The lent ledger: five numbers for each line, in turn. Nothing outside this file knows the layout.
 ghost use mathlib.Core.Path.{_≡_};
 ghost use Rattle.register.specs.Ledger.{Holds, signedOf, bitsOf, hasLine, fieldsAt, withFields, lineAt, withLine};
-use crate::limits::LINE;
+use parts::LINE;
 
 // A line as a value. Kind 1 is annual, 2 month, 3 day; `first` is its first gas-day.
 #[repr(C)]

@@ -4,18 +4,18 @@ ghost use mathlib.Core.Bool.{true};
 ghost use Prim.Native.Nat.{_<_};
 ghost use lib.ListN.{getD, length};
 ghost use Rattle.calendar.specs.ThermalYears.{inThermalYear};
-ghost use Rattle.register.specs.Registers.{state};
-ghost use Rattle.register.specs.Amounts.{entryOf};
-ghost use Rattle.register.specs.Answers.{numberOfVerdict, numberOfReport, amountOfReport};
+ghost use Rattle.parts.specs.Registers.{state};
+ghost use Rattle.parts.specs.Amounts.{entryOf};
+ghost use Rattle.parts.specs.Answers.{numberOfVerdict, numberOfReport, amountOfReport};
 ghost use Rattle.register.specs.Reports.{reportNumber, reportAmount};
-use crate::amounts::entry_in;
-use crate::answers::Refusal;
-use crate::answers::Report;
-use crate::answers::Verdict;
-use crate::limits::POINTS;
 use crate::order::in_order;
-use crate::points::is_open;
-use crate::registers::Register;
+use parts::POINTS;
+use parts::Refusal;
+use parts::Register;
+use parts::Report;
+use parts::Verdict;
+use parts::entry_in;
+use parts::is_open;
 
 // Questions 1, 2, 3 and 8.
 fn report_answer(r: Register, free: &[u32], ledger: &[u32], point: u8, day: u16) -> Verdict

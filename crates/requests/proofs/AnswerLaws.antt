@@ -7,13 +7,13 @@ use Prim.Native.Nat.{ℕ, _+_, _≤_, _<_}
 use native.Mathlib.Nat.{mul-le-mul}
 use native.Mathlib.Omega.{arith}
 use borrow.Author.Tests.{ltb-true, leb-true, eqb-true}
-use Rattle.register.specs.declared.answers.Refusal.{Refusal}
-use Rattle.register.specs.Limits.{lineCount}
-use Rattle.register.specs.Registers.{State}
-use Rattle.register.specs.Answers.{numberOfRefusal, Passes}
-use Rattle.register.proofs.RangeLaws.{least-le}
+use Rattle.parts.specs.declared.answers.Refusal.{Refusal}
+use Rattle.parts.specs.Limits.{lineCount}
+use Rattle.parts.specs.Registers.{State}
+use Rattle.parts.specs.Answers.{numberOfRefusal, Passes}
+use Rattle.parts.proofs.RangeLaws.{least-le}
 use Rattle.register.proofs.OrderFacts.{InOrder, ordered}
-use Rattle.register.proofs.AnswerLaws.{passes, passed, refusal-number, leaves-new, leaves-old}
+use Rattle.parts.proofs.AnswerLaws.{passes, passed, refusal-number, leaves-new, leaves-old}
 use Rattle.conferral.specs.declared.bookings.Grant.{Grant}
 use Rattle.conferral.specs.Bookings.{chargeOf, booked, hasRoom, bookAfter}
 use Rattle.conferral.proofs.RoomLaws.{Room, has-room}

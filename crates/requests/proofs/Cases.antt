@@ -7,10 +7,12 @@ use lib.Dec.{leb}
 use Rattle.calendar.specs.Days.{monthLength, daysBefore, monthStart, dateFrom, yearOf, dateOf}
 use Rattle.calendar.specs.WorkingDays.{gaussA, gaussB, gaussC, gaussD, gaussE, easterOffset, fixedHoliday, workingFrom, workingDays, nthOfMonth}
 use Rattle.calendar.specs.Deadlines.{nextFirst, ownDeadline}
-use Rattle.register.specs.Registers.{State}
-use Rattle.register.specs.Amounts.{spanDays}
-use Rattle.register.specs.Charges.{charge}
-use Rattle.register.specs.Order.{isOpen, isOnFile, inOrder}
+use Rattle.parts.specs.Registers.{State}
+use Rattle.parts.specs.Amounts.{spanDays}
+use Rattle.parts.specs.Charges.{charge}
+use Rattle.parts.specs.Points.{isOpen}
+use Rattle.parts.specs.Accounts.{isOnFile}
+use Rattle.register.specs.Order.{inOrder}
 use Rattle.conferral.specs.Spans.{arrives}
 use Rattle.requests.specs.declared.products.Product.{Product}
 use Rattle.requests.specs.declared.products.Product.the-variants.{Annual}

@@ -7,12 +7,12 @@ use Prim.Native.Nat.{ℕ, _+_, _≤_, _<_}
 use native.Mathlib.Omega.{arith}
 use lib.ListN.{getD}
 use borrow.Author.Tests.{leb-false, ltb-false}
-use Rattle.register.specs.Limits.{lineCount}
-use Rattle.register.specs.Registers.{State}
-use Rattle.register.specs.Amounts.{entryOf, freeOn}
-use Rattle.register.proofs.TestLaws.{fails-at}
+use Rattle.parts.specs.Limits.{lineCount}
+use Rattle.parts.specs.Registers.{State}
+use Rattle.parts.specs.Amounts.{entryOf, freeOn}
+use Rattle.parts.proofs.TestLaws.{fails-at}
 use Rattle.register.proofs.OrderFacts.{ordered}
-use Rattle.register.proofs.QuestionLaws.{numberAt, lone, RefusedAt, refused-at}
+use Rattle.parts.proofs.QuestionLaws.{numberAt, lone, RefusedAt, refused-at}
 use Rattle.conferral.proofs.SpanLaws.{span-facts}
 use Rattle.requests.specs.declared.products.Request.{Request}
 use Rattle.requests.specs.RequestCapacity.{spanFirst, spanLast, daysAsked, spanPlace, accountOf, chargeAsked, isFree, requestQuestions, requestNumber}

@@ -13,13 +13,13 @@ use Rattle.calendar.specs.Days.{between}
 use Rattle.calendar.specs.ThermalYears.{inThermalYear, thermalFirst, thermalLast}
 use Rattle.calendar.proofs.Ranges.{and-left, and-right, both, Within, within, is-between}
 use Rattle.calendar.proofs.SpanLaws.{chosen, unchosen}
-use Rattle.register.specs.declared.registers.Register.{Register}
-use Rattle.register.specs.Limits.{pointCount, userCount, mostAmount}
-use Rattle.register.specs.Tests.{allBelow}
-use Rattle.register.specs.Ranges.{leastOf}
-use Rattle.register.specs.Amounts.{spanDays, entryOf, entryIn}
-use Rattle.register.specs.Answers.{Question, numberOf}
-use Rattle.register.proofs.AmountLaws.{entry-in}
+use Rattle.parts.specs.declared.registers.Register.{Register}
+use Rattle.parts.specs.Limits.{pointCount, userCount, mostAmount}
+use Rattle.parts.specs.Tests.{allBelow}
+use Rattle.parts.specs.Ranges.{leastOf}
+use Rattle.parts.specs.Amounts.{spanDays, entryOf, entryIn}
+use Rattle.parts.specs.Answers.{Question, numberOf}
+use Rattle.parts.proofs.AmountLaws.{entry-in}
 use Rattle.conferral.specs.declared.bookings.Grant.{Grant}
 use Rattle.conferral.specs.Bookings.{covers, isCovered}
 use Rattle.conferral.proofs.SpanLaws.{SpanFacts, span-facts}

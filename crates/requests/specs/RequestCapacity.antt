@@ -6,16 +6,18 @@ use mathlib.Core.List.{List, [], _∷_}
 use lib.Dec.{ltb}
 use lib.ListN.{getD}
 use Rattle.calendar.specs.Days.{between}
-use Rattle.register.specs.declared.points.Point.{Point}
-use Rattle.register.specs.declared.accounts.Account.{Account}
-use Rattle.register.specs.declared.registers.Register.{Register}
-use Rattle.register.specs.Limits.{pointCount, userCount, mostAmount}
-use Rattle.register.specs.Tests.{allBelow}
-use Rattle.register.specs.Ranges.{leastOf}
-use Rattle.register.specs.Registers.{State, pointAt, accountAt}
-use Rattle.register.specs.Amounts.{spanDays, entryOf}
-use Rattle.register.specs.Order.{isOpen, isOnFile, inOrder}
-use Rattle.register.specs.Answers.{numberOfRefusal, Question, _asks_, numberOf, leaves}
+use Rattle.parts.specs.declared.points.Point.{Point}
+use Rattle.parts.specs.declared.accounts.Account.{Account}
+use Rattle.parts.specs.declared.registers.Register.{Register}
+use Rattle.parts.specs.Limits.{pointCount, userCount, mostAmount}
+use Rattle.parts.specs.Tests.{allBelow}
+use Rattle.parts.specs.Ranges.{leastOf}
+use Rattle.parts.specs.Registers.{State, pointAt, accountAt}
+use Rattle.parts.specs.Amounts.{spanDays, entryOf}
+use Rattle.parts.specs.Points.{isOpen}
+use Rattle.parts.specs.Accounts.{isOnFile}
+use Rattle.register.specs.Order.{inOrder}
+use Rattle.parts.specs.Answers.{numberOfRefusal, Question, _asks_, numberOf, leaves}
 use Rattle.conferral.specs.declared.bookings.Grant.{Grant}
 use Rattle.conferral.specs.Bookings.{covers, linesLeft, chargeOf, booked}
 use Rattle.requests.specs.declared.products.Request.{Request}

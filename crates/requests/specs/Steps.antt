@@ -6,8 +6,8 @@ use mathlib.Core.Bool.{true}
 use mathlib.Core.List.{List}
 use Rattle.calendar.specs.ThermalYears.{inThermalYear}
 use Rattle.calendar.specs.declared.thermal_years.Span.{Span}
-use Rattle.register.specs.declared.registers.Register.{Register}
-use Rattle.register.specs.Answers.{numberOfRefusal, Question, numberOf}
+use Rattle.parts.specs.declared.registers.Register.{Register}
+use Rattle.parts.specs.Answers.{numberOfRefusal, Question, numberOf}
 use Rattle.conferral.specs.Spans.{spanWhere}
 use Rattle.requests.specs.declared.products.Product.{Product}
 use Rattle.requests.specs.declared.products.Request.{Request}

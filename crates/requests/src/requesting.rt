@@ -1,7 +1,7 @@
 // The questions put to a request, in order, and the call.
 ghost use mathlib.Core.Path.{_≡_};
 ghost use mathlib.Core.Bool.{true};
-ghost use Rattle.register.specs.Registers.{state};
+ghost use Rattle.parts.specs.Registers.{state};
 ghost use Rattle.requests.specs.RequestCapacity.{numberOfConferral, amountOfConferral, requestFields, grantFrom, amountQuestions, spanQuestions, requestQuestions, requestNumber, requestAmount, requestAfter};
 ghost use Rattle.requests.specs.Steps.{Decides, Spanned};
 use crate::answers::Conferral;

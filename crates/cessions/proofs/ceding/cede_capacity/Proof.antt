@@ -3,7 +3,7 @@ use Prim.Native.Nat.{_<_}
 use borrow.Author.Tests.{le-leb}
 use mir.Syntax.{w32}
 use mir.Facts.{toZ-pos}
-use Rattle.register.specs.Registers.{State, state}
+use Rattle.parts.specs.Registers.{State, state}
 use Rattle.register.proofs.OrderFacts.{guarantee-le}
 use Rattle.conferral.specs.Bookings.{covers}
 use Rattle.cessions.specs.declared.ceding.Handover.{Handover}

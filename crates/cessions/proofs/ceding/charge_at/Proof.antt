@@ -1,5 +1,5 @@
 use mathlib.Core.Path.{_∙_}
-use Rattle.register.specs.Amounts.{spanDays}
+use Rattle.parts.specs.Amounts.{spanDays}
 use Rattle.conferral.proofs.RoomLaws.{charge-exact}
 use native.Mathlib.Omega.{arith}
 use borrow.Author.Needs.{needs}

@@ -1,8 +1,9 @@
 use mathlib.Core.Path.{_≡_, sym, _∙_}
 use mathlib.Core.Bool.{true}
 use borrow.Author.Tests.{not-true, not-false}
-use Rattle.register.specs.Registers.{State, state}
-use Rattle.register.specs.Order.{isOpen, inOrder}
+use Rattle.parts.specs.Registers.{State, state}
+use Rattle.parts.specs.Points.{isOpen}
+use Rattle.register.specs.Order.{inOrder}
 use Rattle.cessions.specs.CedeCapacity.{cessionFields, pointOf, spanQuestions, cessionQuestions}
 use Rattle.cessions.proofs.CessionLaws.{lines-in, fields, decides-too}
 use borrow.Author.Needs.{needs}

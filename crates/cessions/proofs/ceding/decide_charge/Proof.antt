@@ -3,7 +3,7 @@ use mathlib.Core.Bool.{true}
 use Prim.Native.Nat.{_+_}
 use lib.Dec.{leb}
 use borrow.Author.Tests.{not-true, not-false, le-leb, lt-leb}
-use Rattle.register.specs.Limits.{lineCount}
+use Rattle.parts.specs.Limits.{lineCount}
 use Rattle.conferral.specs.Bookings.{covers}
 use Rattle.cessions.specs.declared.ceding.Handover.{Handover}
 use Rattle.cessions.specs.CedeCapacity.{giverOf, receiverOf, chargeOf}

@@ -1,8 +1,8 @@
 use mathlib.Core.Path.{ap, _∙_}
 use Prim.Native.Nat.{_+_}
 use borrow.Author.Tests.{leb-true}
-use Rattle.register.specs.declared.registers.Register.{Register}
-use Rattle.register.specs.Registers.{withLines}
+use Rattle.parts.specs.declared.registers.Register.{Register}
+use Rattle.parts.specs.Registers.{withLines}
 use Rattle.conferral.proofs.RoomLaws.{charged-exact}
 use Rattle.cessions.specs.CedeCapacity.{receiverOf}
 use Rattle.cessions.proofs.CessionLaws.{fields, moved-as}

@@ -1,7 +1,7 @@
 use mathlib.Core.Path.{_≡_, sym, _∙_}
 use mathlib.Core.Bool.{true}
 use borrow.Author.Tests.{not-true, not-false}
-use Rattle.register.specs.Registers.{state}
+use Rattle.parts.specs.Registers.{state}
 use Rattle.conferral.specs.Bookings.{hasRoom}
 use Rattle.conferral.proofs.RoomLaws.{Room, room, booked-as, not-booked}
 use native.Mathlib.Omega.{arith}

@@ -1,6 +1,6 @@
 use mathlib.Core.Path.{ap, _∙_}
 use borrow.Author.Tests.{le-leb}
-use Rattle.register.specs.Registers.{accountAt}
+use Rattle.parts.specs.Registers.{accountAt}
 use Rattle.conferral.specs.Bookings.{covers, committed}
 use Rattle.conferral.proofs.RoomLaws.{Room, within-limits, room}
 use native.Mathlib.Omega.{arith}

@@ -1,7 +1,7 @@
 use mathlib.Core.Path.{_≡_, sym, ap, _∙_}
 use mathlib.Core.Bool.{true}
 use borrow.Author.Tests.{not-true, not-false}
-use Rattle.register.specs.Registers.{accountAt}
+use Rattle.parts.specs.Registers.{accountAt}
 use Rattle.conferral.specs.Bookings.{covers, withinLimits, isCovered}
 use Rattle.conferral.proofs.RoomLaws.{limits}
 use borrow.Author.Needs.{needs}

@@ -1,6 +1,6 @@
 use mathlib.Core.Path.{_≡_}
-use Rattle.register.specs.Registers.{state}
-use Rattle.register.proofs.AnswerLaws.{zero-number, some-number}
+use Rattle.parts.specs.Registers.{state}
+use Rattle.parts.proofs.AnswerLaws.{zero-number, some-number}
 use Rattle.filing.specs.OpenPoint.{openNumber}
 use Rattle.filing.proofs.OpenLaws.{OpenFacts, facts, open-new, open-old}
 use native.Mathlib.Omega.{arith}

@@ -1,6 +1,6 @@
 use mathlib.Core.Path.{_≡_}
-use Rattle.register.specs.Registers.{state}
-use Rattle.register.proofs.AnswerLaws.{zero-number, some-number}
+use Rattle.parts.specs.Registers.{state}
+use Rattle.parts.proofs.AnswerLaws.{zero-number, some-number}
 use Rattle.filing.specs.PlaceGuarantee.{placeNumber}
 use Rattle.filing.proofs.PlaceLaws.{facts, place-new, place-old}
 use borrow.Author.Needs.{needs}

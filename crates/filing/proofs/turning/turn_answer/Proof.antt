@@ -2,7 +2,7 @@ use mathlib.Core.Path.{_≡_, sym, _∙_}
 use mathlib.Core.Bool.{true}
 use borrow.Author.Tests.{not-true, not-false, lt-ltb, le-ltb}
 use Rattle.calendar.specs.ThermalYears.{isThermalYear}
-use Rattle.register.specs.Registers.{State, state}
+use Rattle.parts.specs.Registers.{State, state}
 use Rattle.register.specs.Order.{inOrder}
 use Rattle.filing.specs.TurnYear.{turnNumber}
 use native.Mathlib.Omega.{arith}

@@ -1,4 +1,4 @@
-use Rattle.register.proofs.AnswerLaws.{zero-number, some-number}
+use Rattle.parts.proofs.AnswerLaws.{zero-number, some-number}
 use Rattle.filing.proofs.TurnLaws.{turn-new, turn-old}
 use borrow.Author.Needs.{needs}
 use Rattle.filing.proofs.turning.turn_year.Statement.{statement}

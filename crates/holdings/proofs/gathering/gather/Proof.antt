@@ -2,7 +2,7 @@ use mathlib.Core.Path.{_≡_, refl, sym, ap, _∙_}
 use mathlib.Core.Logic.{⊎-elim}
 use Prim.Native.Nat.{ℕ, _-_, _≤_, _<_}
 use lib.ListN.{length, length-set}
-use Rattle.register.specs.Limits.{lineCount}
+use Rattle.parts.specs.Limits.{lineCount}
 use Rattle.holdings.specs.Holdings.{signedSum, partIn}
 use Rattle.holdings.specs.Steps.{coverAt}
 use Rattle.holdings.specs.declared.gathering.Covers.{Covers}

@@ -7,8 +7,8 @@ use lib.Signed.{mag, ltZ}
 use mir.Syntax.{w64}
 use mir.Val.{toZ, ofZ}
 use mir.Facts.{toZ-ofZ}
-use Rattle.register.specs.Limits.{lineCount}
-use Rattle.register.specs.Amounts.{spanDays}
+use Rattle.parts.specs.Limits.{lineCount}
+use Rattle.parts.specs.Amounts.{spanDays}
 use Rattle.holdings.specs.Holdings.{signedSum, firstShort}
 use Rattle.holdings.specs.Steps.{coverAt, coverShort}
 use Rattle.holdings.proofs.SumLaws.{sum-none, sum-more, added, added-fits, added-small}

@@ -3,7 +3,7 @@ use mathlib.Core.Bool.{true}
 use borrow.Author.Tests.{not-true, not-false, eq-eqb, ne-eqb}
 use Rattle.calendar.specs.ThermalYears.{isThermalYear}
 use lib.ListN.{length}
-use Rattle.register.specs.Limits.{tableLength, ledgerLength}
+use Rattle.parts.specs.Limits.{tableLength, ledgerLength}
 use Rattle.register.specs.Fresh.{freshNumber}
 use borrow.Author.Needs.{needs}
 use Rattle.register.proofs.fresh.fresh_answer.Statement.{statement}

@@ -1,5 +1,5 @@
 use Rattle.register.proofs.FreshLaws.{fresh-new, fresh-old}
-use Rattle.register.proofs.AnswerLaws.{zero-number, some-number}
+use Rattle.parts.proofs.AnswerLaws.{zero-number, some-number}
 use borrow.Author.Needs.{needs}
 use Rattle.register.proofs.fresh.fresh_register.Statement.{statement}
 use Rattle.register.proofs.fresh.fresh_register.Tie as tie

@@ -1,8 +1,8 @@
 use mathlib.Core.Path.{_≡_, _∙_}
 use Prim.Native.Nat.{_-_, _≤_}
-use Rattle.register.specs.Tests.{allBelow}
+use Rattle.parts.specs.Tests.{allBelow}
 use Rattle.register.specs.Order.{accountTest, accountsOk}
-use Rattle.register.proofs.TestLaws.{all-none, all-step, all-end}
+use Rattle.parts.proofs.TestLaws.{all-none, all-step, all-end}
 use native.Mathlib.Omega.{arith}
 use borrow.Author.Needs.{needs}
 use Rattle.register.proofs.order.accounts_in_order.Statement.{statement}

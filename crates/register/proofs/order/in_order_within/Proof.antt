@@ -2,10 +2,10 @@ use mathlib.Core.Path.{_≡_, sym, ap, ap₂, _∙_}
 use mathlib.Core.Bool.{true, _&&_}
 use Prim.Native.Nat.{ℕ}
 use borrow.Author.Tests.{not-true, not-false}
-use Rattle.register.specs.Registers.{State, state}
-use Rattle.register.specs.Amounts.{spanDays, yearDays}
+use Rattle.parts.specs.Registers.{State, state}
+use Rattle.parts.specs.Amounts.{spanDays, yearDays}
 use Rattle.register.specs.Order.{lengthsOk, pointsOk, accountsOk, tableOk}
-use Rattle.register.proofs.CalendarLaws.{YearFacts, year-facts}
+use Rattle.parts.proofs.CalendarLaws.{YearFacts, year-facts}
 use Rattle.register.proofs.OrderLaws.{lengths-table, lengths-ledger, lengths-lines, no-lengths, no-points, no-table, by-lines}
 use native.Mathlib.Omega.{arith}
 use borrow.Author.Needs.{needs}

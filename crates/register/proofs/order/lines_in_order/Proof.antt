@@ -2,10 +2,10 @@ use mathlib.Core.Path.{_≡_, sym, _∙_}
 use mathlib.Core.Bool.{true}
 use Prim.Native.Nat.{_-_, _≤_}
 use borrow.Author.Tests.{not-true, not-false}
-use Rattle.register.specs.Tests.{allBelow}
+use Rattle.parts.specs.Tests.{allBelow}
 use Rattle.register.specs.Ledger.{lineAt}
 use Rattle.register.specs.Order.{lineTest, linesOk}
-use Rattle.register.proofs.TestLaws.{all-none, all-next, all-end}
+use Rattle.parts.proofs.TestLaws.{all-none, all-next, all-end}
 use Rattle.register.proofs.LedgerLaws.{line-in}
 use Rattle.register.proofs.OrderLaws.{InYear, in-year, mark-of, line-fields, line-named, lines-fail}
 use native.Mathlib.Omega.{arith}

@@ -1,7 +1,7 @@
 use mathlib.Core.Path.{_≡_, refl}
 use Prim.Native.Nat.{_-_, _≤_, _<_}
 use lib.ListN.{length, length-set}
-use Rattle.register.specs.Limits.{rowLength}
+use Rattle.parts.specs.Limits.{rowLength}
 use Rattle.register.specs.Steps.{Marked}
 use Rattle.register.proofs.OrderLaws.{is-thermal-month, marked-none, marked-more, marked-all, mark-place}
 use native.Mathlib.Omega.{arith}

@@ -2,10 +2,10 @@ use mathlib.Core.Path.{_≡_, ap, ap₂, _∙_}
 use mathlib.Core.Bool.{_&&_}
 use Prim.Native.Nat.{_-_, _≤_}
 use lib.Dec.{leb}
-use Rattle.register.specs.Tests.{allBelow}
-use Rattle.register.specs.Registers.{pointAt}
+use Rattle.parts.specs.Tests.{allBelow}
+use Rattle.parts.specs.Registers.{pointAt}
 use Rattle.register.specs.Order.{rowTest, tableOk}
-use Rattle.register.proofs.TestLaws.{all-none, all-step, all-end}
+use Rattle.parts.proofs.TestLaws.{all-none, all-step, all-end}
 use Rattle.register.proofs.OrderLaws.{row-is}
 use native.Mathlib.Omega.{arith}
 use borrow.Author.Needs.{needs}

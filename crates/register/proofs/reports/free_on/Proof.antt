@@ -1,6 +1,6 @@
 use mathlib.Core.Path.{_≡_, _∙_}
-use Rattle.register.specs.Amounts.{entryOf}
-use Rattle.register.proofs.AmountLaws.{entry-in}
+use Rattle.parts.specs.Amounts.{entryOf}
+use Rattle.parts.proofs.AmountLaws.{entry-in}
 use native.Mathlib.Omega.{arith}
 use borrow.Author.Needs.{needs}
 use Rattle.register.proofs.reports.free_on.Statement.{statement}

@@ -1,8 +1,8 @@
 use mathlib.Core.Path.{_≡_, sym, _∙_}
 use mathlib.Core.Bool.{true}
 use borrow.Author.Tests.{not-true, not-false, lt-ltb, le-ltb}
-use Rattle.register.specs.Limits.{pointCount}
-use Rattle.register.specs.Registers.{State, state}
+use Rattle.parts.specs.Limits.{pointCount}
+use Rattle.parts.specs.Registers.{State, state}
 use Rattle.register.specs.Order.{inOrder}
 use Rattle.register.specs.Reports.{reportNumber}
 use native.Mathlib.Omega.{arith}

@@ -1,7 +1,7 @@
 use mathlib.Core.Path.{_≡_, sym}
-use Rattle.register.specs.Registers.{state}
+use Rattle.parts.specs.Registers.{state}
 use Rattle.register.specs.Reports.{reportNumber}
-use Rattle.register.proofs.AnswerLaws.{zero-number, refused-number, some-number}
+use Rattle.parts.proofs.AnswerLaws.{zero-number, refused-number, some-number}
 use Rattle.register.proofs.ReportLaws.{report-facts, report-entry, report-free, report-none}
 use borrow.Author.Needs.{needs}
 use Rattle.register.proofs.reports.report_free.Statement.{statement}

@@ -1,8 +1,10 @@
 use mathlib.Core.Path.{_≡_, sym, _∙_}
 use mathlib.Core.Bool.{true}
 use borrow.Author.Tests.{not-true, not-false}
-use Rattle.register.specs.Registers.{State, state, pointAt, accountAt}
-use Rattle.register.specs.Order.{isOpen, isOnFile, inOrder}
+use Rattle.parts.specs.Registers.{State, state, pointAt, accountAt}
+use Rattle.parts.specs.Points.{isOpen}
+use Rattle.parts.specs.Accounts.{isOnFile}
+use Rattle.register.specs.Order.{inOrder}
 use Rattle.requests.specs.RequestCapacity.{requestFields, spanQuestions, requestQuestions}
 use Rattle.requests.proofs.RequestLaws.{fields, decides-too}
 use borrow.Author.Needs.{needs}

@@ -1,5 +1,5 @@
 use mathlib.Core.Path.{subst}
-use Rattle.register.specs.Registers.{State, state}
+use Rattle.parts.specs.Registers.{State, state}
 use Rattle.requests.specs.declared.requesting.Decision.{Decision}
 use Rattle.requests.specs.declared.requesting.Decision.the-variants.{Confer, Refuse}
 use Rattle.requests.specs.RequestCapacity.{requestQuestions}
