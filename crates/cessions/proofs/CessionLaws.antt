@@ -3,30 +3,29 @@
 use mathlib.Core.Path.{_≡_, refl, sym, ap, _∙_}
 use mathlib.Core.Bool.{true, false, not, _&&_}
 use mathlib.Core.List.{List}
-use Prim.Native.Nat.{ℕ, _≤_, _<_}
-use native.Mathlib.Omega.{arith}
+use Prim.Native.Nat.{ℕ, _<_}
 use lib.Dec.{ltb, eqb}
 use borrow.Author.Tests.{ltb-true, eqb-false, not-true}
 use Rattle.calendar.specs.declared.thermal_years.Span.the-variants.{Days, OutsideCalendar}
-use Rattle.calendar.specs.Days.{lastDay, between}
+use Rattle.calendar.specs.Days.{between}
 use Rattle.calendar.specs.ThermalYears.{thermalFirst, thermalLast}
 use Rattle.calendar.proofs.Ranges.{and-left, and-right, both, Within, within, is-between}
 use Rattle.calendar.proofs.SpanLaws.{chosen, unchosen}
 use Rattle.parts.specs.declared.accounts.Account.{Account}
 use Rattle.parts.specs.declared.registers.Register.{Register}
-use Rattle.parts.specs.Limits.{pointCount, userCount, rowLength, mostAmount}
+use Rattle.parts.specs.Limits.{pointCount, userCount, mostAmount}
 use Rattle.parts.specs.Registers.{State, accountAt, withAccount}
 use Rattle.register.specs.Ledger.{lineAt}
-use Rattle.parts.specs.Amounts.{spanDays}
-use Rattle.parts.specs.Charges.{charge, discharged}
+use Rattle.parts.specs.Charges.{discharged}
 use Rattle.register.specs.Order.{inOrder}
 use Rattle.parts.specs.Answers.{Question, numberOf}
-use Rattle.parts.proofs.CalendarLaws.{year-facts}
 use Rattle.register.proofs.OrderFacts.{ordered, line-facts}
 use Rattle.register.proofs.OrderKept.{account-other}
 use Rattle.conferral.specs.Spans.{arrives, annualAnswer}
-use Rattle.conferral.specs.Bookings.{committed}
+use Rattle.conferral.specs.declared.bookings.Grant.{Grant}
+use Rattle.conferral.specs.Bookings.{committed, chargeWithin}
 use Rattle.conferral.proofs.SpanLaws.{SpanFacts, span-facts, arrival-year}
+use Rattle.conferral.proofs.RoomLaws.{charge-within}
 use Rattle.holdings.specs.declared.holdings.Holding.{Holding}
 use Rattle.holdings.specs.declared.holdings.Held.{Held}
 use Rattle.holdings.specs.Holdings.{heldAnswer, isThroughout}
@@ -34,7 +33,7 @@ use Rattle.holdings.proofs.HeldLaws.{held-answer}
 use Rattle.cessions.specs.declared.ceding.Cession.{Cession}
 use Rattle.cessions.specs.declared.ceding.Decision.{Decision}
 use Rattle.cessions.specs.declared.ceding.Decision.the-variants.{Cede, Refuse}
-use Rattle.cessions.specs.CedeCapacity.{cessionFields, pointOf, giverOf, receiverOf, spanFirst, spanLast, isInYear, givenOf, isHeld, chargeOf, chargeMoved}
+use Rattle.cessions.specs.CedeCapacity.{cessionFields, giverOf, receiverOf, spanFirst, spanLast, isInYear, givenOf, isHeld, chargeOf, chargeMoved}
 use Rattle.cessions.specs.Steps.{spanAnswer, handoverOf, Decides, Spanned, LinesIn}
 
 -- ---- question 1
@@ -100,13 +99,6 @@ module _ (r : Register) (c : Cession) where
   span-in first last w =
       rw (w .begins, w .ends) (span-facts (r .year) (c .arrival) (spanFirst c) (spanLast r) (w .fits))
 
-  -- its days lie in the calendar, and are not more than a year has
-  pub span-limits : (first last : ℕ) → Spanned r c first last → (first ≤ last) × ((last ≤ lastDay) × (spanDays first last ≤ rowLength))
-  span-limits first last w =
-      let s = span-in first last w in
-      let y = year-facts (r .year) (s .year) in
-      (s .fit .ordered, (omega (arith, s .fit .ends, y .last), omega (arith, s .fit .begins, s .fit .ordered, s .fit .ends, y .most)))
-
   -- ---- question 10
   -- what the giver is to hold, from the days of the span
   pub given-is : (first last : ℕ) → Spanned r c first last → (h : Holding)
@@ -122,8 +114,15 @@ module _ (r : Register) (c : Cession) where
       ∙ held-answer (r .year) (r .lines) ls (l .few) (l .firsts) (givenOf r c)
 
   -- ---- the charge
-  pub charge-is : (first last : ℕ) → Spanned r c first last → charge (c .amount) (spanDays first last) (pointOf r c .rate) ≡ chargeOf r c
-  charge-is first last w = rw (w .begins, w .ends)
+  pub charge-is : (first last kind : ℕ) → FieldFacts c → Spanned r c first last → Within 1 3 kind → (g : Grant)
+      → g ≡ record { user = c .receiver; point = c .point; kind = kind; first = first; last = last; amount = c .amount }
+      → chargeWithin r g ≡ chargeOf r c
+  charge-is first last kind f w k g e =
+      let s = span-in first last w in
+      ap (chargeWithin r) e
+      ∙ charge-within r (record { user = c .receiver; point = c .point; kind = kind; first = first; last = last; amount = c .amount })
+      (record { year = s .year; fit = s .fit; user = f .receiver; point = f .point; kind = k; amount = f .amount })
+      ∙ rw (w .begins, w .ends)
 
   pub handover-is : (first last n : ℕ) → Spanned r c first last → n ≡ chargeOf r c → record { first = first; charge = n } ≡ handoverOf r c
   handover-is first last n w e = rw (w .begins, e)

@@ -1,12 +1,9 @@
 // The questions put to a cession, in order, and the call.
 ghost use mathlib.Core.Path.{_≡_};
 ghost use mathlib.Core.Bool.{true};
-ghost use Prim.Native.Nat.{_≤_, _<_, _+_};
-ghost use Rattle.calendar.specs.Days.{lastDay};
-ghost use Rattle.parts.specs.Limits.{lineCount, rowLength, mostAmount, mostGuarantee};
+ghost use Prim.Native.Nat.{_≤_, _+_};
+ghost use Rattle.parts.specs.Limits.{lineCount, mostGuarantee};
 ghost use Rattle.parts.specs.Registers.{state, withLines};
-ghost use Rattle.parts.specs.Amounts.{spanDays};
-ghost use Rattle.parts.specs.Charges.{charge};
 ghost use Rattle.conferral.specs.Spans.{arrives};
 ghost use Rattle.conferral.specs.Bookings.{covers};
 ghost use Rattle.cessions.specs.CedeCapacity.{numberOfSettlement, amountOfSettlement, cessionFields, receiverOf, bothOnFile, isInTime, chargeOf, chargeMoved, annualLine, withTwoLines, chargeQuestions, heldQuestions, spanQuestions, cessionQuestions, cessionNumber, cessionAmount, cessionAfter};
@@ -14,10 +11,10 @@ ghost use Rattle.cessions.specs.Steps.{spanAnswer, handoverOf, Decides, 
 use crate::answers::Settled;
 use crate::answers::Settlement;
 use calendar::Span;
+use conferral::Grant;
 use holdings::Held;
 use holdings::Holding;
 use register::Line;
-use register::Point;
 use register::Refusal;
 use register::Register;
 
@@ -34,7 +31,9 @@ pub struct Cession {
 // A cession arrives by this working day of a month.
 const DEADLINE: u8 = 16;
 
-// It writes so many lines.
+// The kind of the ledger lines that it writes, and how many they are.
+const ANNUAL: u8 = 1;
+
 const LINES_WRITTEN: usize = 2;
 
 // What an accepted cession needs: the first day of its lines and the charge that moves.
@@ -79,21 +78,22 @@ fn span_of(year: u16, arrival: u16) -> Span
     conferral::annual_span(year, arrival)
 }
 
-// The charge of an amount at a point, on each day from first to last.
-fn charge_at(p: Point, amount: u32, first: u16, last: u16) -> u64
-    requires { ⌜ (first ≤ last) × ((last ≤ lastDay) × ((spanDays first last ≤ rowLength) × (amount ≤ mostAmount))) ⌝ }
-    ensures { λ v. ⌜ v ≡ charge amount (spanDays first last) (p .rate) ⌝ }
-{
-    register::charge_of(amount, last + 1 - first, p.rate)
-}
-
-// The charge of a cession on the days from first to last.
+// The charge of a cession on the days from first to last: that of an annual grant to the receiver.
 fn cession_charge(r: Register, c: Cession, first: u16, last: u16) -> u64
     requires { ⌜ (cessionFields c ≡ true) × Spanned r c first last ⌝ }
     ensures { λ v. ⌜ v ≡ chargeOf r c ⌝ }
 {
-    let p = r.points[c.point as usize];
-    charge_at(p, c.amount as u32, first, last)
+    conferral::charge_within(
+        r,
+        Grant {
+            user: c.receiver,
+            point: c.point,
+            kind: ANNUAL,
+            first,
+            last,
+            amount: c.amount as u32,
+        },
+    )
 }
 
 // Question 1 again, 11 and 13.
@@ -206,7 +206,7 @@ fn annual_line(user: u8, point: u8, first: u16, amount: i32) -> Line
     Line {
         user: user as u32,
         point: point as u32,
-        kind: 1,
+        kind: ANNUAL as u32,
         first: first as u32,
         amount,
     }

@@ -23,7 +23,7 @@ use Rattle.parts.proofs.CalendarLaws.{year-facts}
 use Rattle.parts.proofs.AmountLaws.{entry-in}
 use Rattle.conferral.specs.declared.bookings.Grant.{Grant}
 use Rattle.conferral.specs.Spans.{spanFits}
-use Rattle.conferral.specs.Bookings.{covers, linesLeft, daysOf, chargeOf, committed, withCharge, lineOf, booked, limitTests, withinLimits, isCovered, hasRoom, bookAfter}
+use Rattle.conferral.specs.Bookings.{covers, linesLeft, daysOf, chargeOf, committed, withCharge, lineOf, booked, limitTests, withinLimits, chargeWithin, isCovered, hasRoom, bookAfter}
 use Rattle.conferral.proofs.SpanLaws.{FitFacts, fit-facts, span-fits}
 
 -- tests that hold of the same numbers are the same
@@ -85,6 +85,11 @@ module _ (y : ℕ) (g : Grant) where
   first-in w =
       both _ _ (w .year)
       (is-between (thermalFirst y) (thermalLast y) (g .first) (w .fit .begins) (omega (arith, w .fit .ordered, w .fit .ends)))
+
+-- its charge
+pub charge-within : (r : Register) (g : Grant) → LimitFacts (r .year) g → chargeWithin r g ≡ chargeOf r g
+unfolding chargeWithin
+charge-within r g w = rw (within-limits (r .year) g w)
 
 -- ---- with room
 pub record Room (r : Register) (g : Grant) : Type 0 where

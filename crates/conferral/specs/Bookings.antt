@@ -14,7 +14,7 @@ use Rattle.parts.specs.Tests.{every}
 use Rattle.parts.specs.Registers.{State, state, pointAt, accountAt, withCommitment, withLines, withAccount}
 use Rattle.register.specs.Ledger.{withLine}
 use Rattle.parts.specs.Amounts.{spanDays, entryOf, taken}
-use Rattle.parts.specs.Charges.{charge}
+use Rattle.parts.specs.Charges.{charge, mostWord}
 use Rattle.conferral.specs.declared.bookings.Grant.{Grant}
 use Rattle.conferral.specs.Spans.{spanInYear}
 
@@ -65,6 +65,10 @@ limitTests y g =
 
 unfoldable pub withinLimits : ℕ → Grant → Bool
 withinLimits y g = every (limitTests y g)
+
+-- the charge of such a grant; of any other the largest number that 64 bits hold, which no guarantee covers
+unfoldable pub chargeWithin : Register → Grant → ℕ
+chargeWithin r g = cond (withinLimits (r .year) g) (chargeOf r g) mostWord
 
 -- one whose charge the user's guarantee covers too
 unfoldable pub isCovered : Register → Grant → Bool

@@ -6,7 +6,7 @@ ghost use Rattle.calendar.specs.Days.{lastDay};
 ghost use Rattle.parts.specs.Limits.{rowLength, mostAmount};
 ghost use Rattle.parts.specs.Registers.{state, withLines};
 ghost use Rattle.parts.specs.Charges.{charge};
-ghost use Rattle.conferral.specs.Bookings.{covers, daysOf, chargeOf, committed, withCharge, lineOf, withinLimits, isCovered, hasRoom, bookAfter};
+ghost use Rattle.conferral.specs.Bookings.{covers, daysOf, chargeOf, committed, withCharge, lineOf, withinLimits, chargeWithin, isCovered, hasRoom, bookAfter};
 use crate::spans::is_span;
 use register::Account;
 use register::Line;
@@ -50,6 +50,16 @@ fn grant_charge(r: Register, g: Grant) -> u64
 {
     let p = r.points[g.point as usize];
     charge_at(p, g)
+}
+
+// The charge of a grant within limits; of any other the largest number, which no guarantee covers.
+pub fn charge_within(r: Register, g: Grant) -> u64
+    ensures { λ v. ⌜ v ≡ chargeWithin r g ⌝ }
+{
+    if !is_within_limits(r.year, g) {
+        return register::MOST_WORD;
+    }
+    grant_charge(r, g)
 }
 
 // Whether a guarantee covers the commitment and a charge more.

@@ -7,6 +7,7 @@ mod spans;
 
 pub use bookings::Grant;
 pub use bookings::book;
+pub use bookings::charge_within;
 pub use bookings::covers_charge;
 pub use bookings::is_covered;
 pub use spans::annual_span;
