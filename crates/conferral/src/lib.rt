@@ -1,5 +1,5 @@
-// What the calls that confer capacity share: when a call may arrive, the span to the year's end, what a guarantee covers, and how a
-// grant is booked.
+// What the calls that confer or move capacity share: when a call may arrive, the span to the year's end, charges, what a guarantee
+// covers, and how a grant is booked.
 //
 // No function that another crate can name has a `requires`. The meaning of each answer is in specs/.
 mod bookings;

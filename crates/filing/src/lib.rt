@@ -1,4 +1,4 @@
-// Open point, place guarantee and turn the year: the changing calls that grant no capacity.
+// Open point, place guarantee and turn the year: the changing calls that neither grant nor move capacity.
 //
 // Each takes the register by value and gives it back with its answer; the free amounts and the ledger are lent. No function that
 // another crate can name has a `requires`. The meaning of each answer is in specs/.

@@ -22,13 +22,13 @@ pub enum Refusal {
     YearNotLater,
 }
 
-// The answer of a call that grants no amount.
+// The answer of a call without an amount.
 pub enum Verdict {
     Accepted,
     Refused(Refusal),
 }
 
-// What a fresh register, and a changing call that grants no amount, give back: the register as it then is, and the answer.
+// What a fresh register, and a changing call without an amount, give back: the register as it then is, and the answer.
 pub struct Filed {
     pub register: Register,
     pub answer: Verdict,
