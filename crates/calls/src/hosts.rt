@@ -5,8 +5,8 @@ use crate::steps::byte;
 use crate::steps::half;
 use crate::steps::is_call;
 use crate::steps::low;
+use cessions::Ceded;
 use cessions::Cession;
-use cessions::Settled;
 use register::Account;
 use register::Filed;
 use register::Point;
@@ -94,13 +94,13 @@ fn after_request(h: Host, c: Conferred) -> Host {
     )
 }
 
-fn after_cession(h: Host, c: Settled) -> Host {
+fn after_cession(h: Host, c: Ceded) -> Host {
     let answer = c.answer;
     answered(
         h,
         c.register,
-        cessions::settlement_number(answer),
-        cessions::settlement_amount(answer),
+        cessions::cession_number(answer),
+        cessions::cession_amount(answer),
     )
 }
 

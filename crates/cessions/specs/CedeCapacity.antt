@@ -24,18 +24,18 @@ use Rattle.conferral.specs.Spans.{annualFirst, annualLast, spanOk}
 use Rattle.conferral.specs.Bookings.{covers, linesLeft, withCharge}
 use Rattle.holdings.specs.declared.holdings.Holding.{Holding}
 use Rattle.holdings.specs.Holdings.{holdsThroughout}
-use Rattle.cessions.specs.declared.answers.Settlement.{Settlement}
-use Rattle.cessions.specs.declared.answers.Settlement.the-variants.{Ceded, Refused}
+use Rattle.cessions.specs.declared.answers.CessionAnswer.{CessionAnswer}
+use Rattle.cessions.specs.declared.answers.CessionAnswer.the-variants.{Amount, Refused}
 use Rattle.cessions.specs.declared.ceding.Cession.{Cession}
 
 -- the number and the amount of an answer: "amount granted or ceded (else 0)"
-abbrev pub numberOfSettlement : Settlement → ℕ
-numberOfSettlement (Ceded a) = 0
-numberOfSettlement (Refused n) = numberOfRefusal n
+abbrev pub numberOfAnswer : CessionAnswer → ℕ
+numberOfAnswer (Amount a) = 0
+numberOfAnswer (Refused n) = numberOfRefusal n
 
-abbrev pub amountOfSettlement : Settlement → ℕ
-amountOfSettlement (Ceded a) = a
-amountOfSettlement (Refused n) = 0
+abbrev pub amountOfAnswer : CessionAnswer → ℕ
+amountOfAnswer (Amount a) = a
+amountOfAnswer (Refused n) = 0
 
 -- question 2: "point 0 to 31, users 0 to 63, giver not the receiver, amount [..] 1 to 9,999,999"
 abbrev pub cessionFields : Cession → Bool

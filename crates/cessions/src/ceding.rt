@@ -6,10 +6,10 @@ ghost use Rattle.parts.specs.Limits.{lineCount, mostGuarantee};
 ghost use Rattle.parts.specs.Registers.{state, withLines};
 ghost use Rattle.conferral.specs.Spans.{arrives};
 ghost use Rattle.conferral.specs.Bookings.{covers};
-ghost use Rattle.cessions.specs.CedeCapacity.{numberOfSettlement, amountOfSettlement, cessionFields, receiverOf, bothOnFile, isInTime, chargeOf, chargeMoved, annualLine, withTwoLines, chargeQuestions, heldQuestions, spanQuestions, cessionQuestions, cessionNumber, cessionAmount, cessionAfter};
+ghost use Rattle.cessions.specs.CedeCapacity.{numberOfAnswer, amountOfAnswer, cessionFields, receiverOf, bothOnFile, isInTime, chargeOf, chargeMoved, annualLine, withTwoLines, chargeQuestions, heldQuestions, spanQuestions, cessionQuestions, cessionNumber, cessionAmount, cessionAfter};
 ghost use Rattle.cessions.specs.Steps.{spanAnswer, handoverOf, Decides, Spanned, LinesIn};
-use crate::answers::Settled;
-use crate::answers::Settlement;
+use crate::answers::Ceded;
+use crate::answers::CessionAnswer;
 use calendar::Span;
 use conferral::Grant;
 use holdings::Held;
@@ -223,9 +223,9 @@ fn write_two_lines(ledger: &mut [u32], n: u16, before: Line, after: Line)
 
 // Cedes an amount: its charge moves from the giver's commitment to the receiver's, and two annual lines are written, minus then
 // plus. The free amounts don't move.
-pub fn cede_capacity(r: Register, free: &mut [u32], ledger: &mut [u32], c: Cession) -> Settled
-    ensures number { λ a. ⌜ numberOfSettlement (a .answer) ≡ cessionNumber (state r (now (free .entry)) (now (ledger .entry))) c ⌝ }
-    ensures amount { λ a. ⌜ amountOfSettlement (a .answer) ≡ cessionAmount (state r (now (free .entry)) (now (ledger .entry))) c ⌝ }
+pub fn cede_capacity(r: Register, free: &mut [u32], ledger: &mut [u32], c: Cession) -> Ceded
+    ensures number { λ a. ⌜ numberOfAnswer (a .answer) ≡ cessionNumber (state r (now (free .entry)) (now (ledger .entry))) c ⌝ }
+    ensures amount { λ a. ⌜ amountOfAnswer (a .answer) ≡ cessionAmount (state r (now (free .entry)) (now (ledger .entry))) c ⌝ }
     ensures state { λ a. ⌜ state (a .register) (now (free .exit)) (now (ledger .exit)) ≡ cessionAfter (state r (now (free .entry)) (now (ledger .entry))) c ⌝ }
 {
     let decision = decide(r, &free[..], &ledger[..], c);
@@ -236,14 +236,14 @@ pub fn cede_capacity(r: Register, free: &mut [u32], ledger: &mut [u32], c: Cessi
             let plus = annual_line(c.receiver, c.point, h.first, amount);
             write_two_lines(ledger, r.lines, minus, plus);
             let moved = moved_register(r, c, h.charge);
-            Settled {
+            Ceded {
                 register: moved,
-                answer: Settlement::Ceded(c.amount as u32),
+                answer: CessionAnswer::Amount(c.amount as u32),
             }
         }
-        Decision::Refuse(why) => Settled {
+        Decision::Refuse(why) => Ceded {
             register: r,
-            answer: Settlement::Refused(why),
+            answer: CessionAnswer::Refused(why),
         },
     }
 }

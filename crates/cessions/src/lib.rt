@@ -5,9 +5,9 @@
 mod answers;
 mod ceding;
 
-pub use answers::Settled;
-pub use answers::Settlement;
-pub use answers::settlement_amount;
-pub use answers::settlement_number;
+pub use answers::Ceded;
+pub use answers::CessionAnswer;
+pub use answers::cession_amount;
+pub use answers::cession_number;
 pub use ceding::Cession;
 pub use ceding::cede_capacity;

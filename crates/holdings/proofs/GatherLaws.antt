@@ -19,10 +19,10 @@ use Rattle.register.specs.declared.ledger.Line.{Line}
 use Rattle.register.specs.Ledger.{lineAt, lineLast}
 use Rattle.parts.proofs.CalendarLaws.{thermal-year}
 use Rattle.holdings.specs.declared.holdings.Holding.{Holding}
-use Rattle.holdings.specs.declared.gathering.Cover.{Cover}
+use Rattle.holdings.specs.declared.gathering.GatheredLine.{GatheredLine}
 use Rattle.holdings.specs.declared.ends.Bounds.{Bounds}
 use Rattle.holdings.specs.Holdings.{signedSum, isHis, coversDay, partOf, partIn}
-use Rattle.holdings.specs.Steps.{boundsOf, endOf, isGathered, coverOf, noCover, coverOn, coverAt}
+use Rattle.holdings.specs.Steps.{boundsOf, endOf, isGathered, gatheredLine, noLine, partOn, gatheredPart}
 use Rattle.holdings.proofs.SumLaws.{sum-more, sum-same}
 
 -- a day between the bounds of a year is a day of it
@@ -68,7 +68,7 @@ module _ (y : ℕ) (h : Holding) (b : Bounds) (l : Line) (eb : b ≡ boundsOf y)
   same-end t = ap (λ (n : ℕ). endOf n l) (year-end (and-left (isThermalYear y) (between (thermalFirst y) (thermalLast y) (l .first)) t))
 
   -- what it adds on a day is what is kept of it
-  pub gathered-part : (d : ℕ) → isGathered h b l ≡ true → cond (inThermalYear y (l .first)) (partOf y (h .user) (h .point) d l) (pos 0) ≡ coverOn d (coverOf (b .last) l)
+  pub gathered-part : (d : ℕ) → isGathered h b l ≡ true → cond (inThermalYear y (l .first)) (partOf y (h .user) (h .point) d l) (pos 0) ≡ partOn d (gatheredLine (b .last) l)
   gathered-part d g =
       rw (gathered-year g, and-left his (between (b .first) (b .last) (l .first)) g) (ap (λ (n : ℕ). cond (between (l .first) n d) (l .amount) (pos 0)) (sym (same-end (gathered-year g))))
 
@@ -86,30 +86,30 @@ module _ (y : ℕ) (h : Holding) (b : Bounds) (l : Line) (eb : b ≡ boundsOf y)
 
 -- ---- one more line
 module _ (y : ℕ) (ls : List ℕ) (h : Holding) (i : ℕ) (b : Bounds) (l : Line) (eb : b ≡ boundsOf y) (el : l ≡ lineAt ls i)
-    (cs : List Cover) (n : ℕ) (sums : (d : ℕ) → signedSum i (partIn y ls (h .user) (h .point) d) ≡ signedSum n (coverAt cs d)) where
+    (cs : List GatheredLine) (n : ℕ) (sums : (d : ℕ) → signedSum i (partIn y ls (h .user) (h .point) d) ≡ signedSum n (gatheredPart cs d)) where
   part : (d : ℕ) → partIn y ls (h .user) (h .point) d i ≡ cond (inThermalYear y (l .first)) (partOf y (h .user) (h .point) d l) (pos 0)
   part d = ap (λ (x : Line). cond (inThermalYear y (x .first)) (partOf y (h .user) (h .point) d x) (pos 0)) (sym el)
 
   -- it is gathered
-  pub one-gathered : (c : Cover) (cs′ : List Cover) (n′ : ℕ) → isGathered h b l ≡ true → c ≡ coverOf (b .last) l → n < length cs → cs′ ≡ set cs n c → n′ ≡ n + 1
-      → (d : ℕ) → signedSum (i + 1) (partIn y ls (h .user) (h .point) d) ≡ signedSum n′ (coverAt cs′ d)
+  pub one-gathered : (c : GatheredLine) (cs′ : List GatheredLine) (n′ : ℕ) → isGathered h b l ≡ true → c ≡ gatheredLine (b .last) l → n < length cs → cs′ ≡ set cs n c → n′ ≡ n + 1
+      → (d : ℕ) → signedSum (i + 1) (partIn y ls (h .user) (h .point) d) ≡ signedSum n′ (gatheredPart cs′ d)
   one-gathered c cs′ n′ g ec inside e en d =
       sum-more i (partIn y ls (h .user) (h .point) d)
       ∙ ap₂ _+ℤ_ (sums d ∙ sym kept) (part d ∙ gathered-part y h b l eb d g ∙ sym put)
-      ∙ sym (sum-more n (coverAt (set cs n c) d))
-      ∙ ap₂ (λ (x : List Cover) (k : ℕ). signedSum k (coverAt x d)) (sym e) (sym en)
+      ∙ sym (sum-more n (gatheredPart (set cs n c) d))
+      ∙ ap₂ (λ (x : List GatheredLine) (k : ℕ). signedSum k (gatheredPart x d)) (sym e) (sym en)
     where
-      kept : signedSum n (coverAt (set cs n c) d) ≡ signedSum n (coverAt cs d)
-      kept = sum-same n (coverAt (set cs n c) d) (coverAt cs d) (λ k m. ap (coverOn d) (getD-set-other cs n k c noCover (λ q. omega arith)))
+      kept : signedSum n (gatheredPart (set cs n c) d) ≡ signedSum n (gatheredPart cs d)
+      kept = sum-same n (gatheredPart (set cs n c) d) (gatheredPart cs d) (λ k m. ap (partOn d) (getD-set-other cs n k c noLine (λ q. omega arith)))
 
-      put : coverAt (set cs n c) d n ≡ coverOn d (coverOf (b .last) l)
-      put = ap (coverOn d) (getD-set-same cs n c noCover inside ∙ ec)
+      put : gatheredPart (set cs n c) d n ≡ partOn d (gatheredLine (b .last) l)
+      put = ap (partOn d) (getD-set-same cs n c noLine inside ∙ ec)
 
   -- it is left out
-  pub one-left : (cs′ : List Cover) (n′ : ℕ) → isGathered h b l ≡ false → cs′ ≡ cs → n′ ≡ n
-      → (d : ℕ) → signedSum (i + 1) (partIn y ls (h .user) (h .point) d) ≡ signedSum n′ (coverAt cs′ d)
+  pub one-left : (cs′ : List GatheredLine) (n′ : ℕ) → isGathered h b l ≡ false → cs′ ≡ cs → n′ ≡ n
+      → (d : ℕ) → signedSum (i + 1) (partIn y ls (h .user) (h .point) d) ≡ signedSum n′ (gatheredPart cs′ d)
   one-left cs′ n′ g e en d =
       sum-more i (partIn y ls (h .user) (h .point) d)
       ∙ ap₂ _+ℤ_ (sums d) (part d ∙ other-part y h b l eb d g)
       ∙ +ℤ-idr _
-      ∙ ap₂ (λ (x : List Cover) (k : ℕ). signedSum k (coverAt x d)) (sym e) (sym en)
+      ∙ ap₂ (λ (x : List GatheredLine) (k : ℕ). signedSum k (gatheredPart x d)) (sym e) (sym en)

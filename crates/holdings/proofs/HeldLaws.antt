@@ -21,8 +21,8 @@ use Rattle.holdings.specs.declared.holdings.Holding.{Holding}
 use Rattle.holdings.specs.declared.holdings.Held.{Held}
 use Rattle.holdings.specs.declared.holdings.Held.the-variants.{Throughout, ShortOn}
 use Rattle.holdings.specs.Holdings.{signedSum, partAt, partIn, heldOn, heldIn, shortIn, tooLittle, holdsThroughout, firstShort, heldAnswer, isThroughout}
-use Rattle.holdings.specs.declared.gathering.Covers.{Covers}
-use Rattle.holdings.specs.Steps.{Gathers, coverShort}
+use Rattle.holdings.specs.declared.gathering.Gathered.{Gathered}
+use Rattle.holdings.specs.Steps.{Gathers, gatheredShort}
 use Rattle.holdings.proofs.SumLaws.{sum-same}
 
 -- ---- the first of the days from d to last
@@ -140,11 +140,11 @@ module _ (y n : ℕ) (ls : List ℕ) (few : n ≤ lineCount) (firsts : (i : ℕ)
       (sym (first-same (shortIn y n ls h) (tooLittle y n ls h) (short-in h) (spanDays (h .first) (h .last)) (h .first)) ∙ p)
 
 -- ---- what was gathered gives the answer
-pub gathered-answer : (y n k : ℕ) (ls : List ℕ) (h : Holding) (c : Covers) → k ≡ min n lineCount → Gathers y k ls h c
-    → firstShort (coverShort c (h .amount)) (spanDays (h .first) (h .last)) (h .first) ≡ heldAnswer y n ls h
+pub gathered-answer : (y n k : ℕ) (ls : List ℕ) (h : Holding) (c : Gathered) → k ≡ min n lineCount → Gathers y k ls h c
+    → firstShort (gatheredShort c (h .amount)) (spanDays (h .first) (h .last)) (h .first) ≡ heldAnswer y n ls h
 unfolding heldAnswer heldIn
 gathered-answer y n k ls h c e w =
-    first-same (coverShort c (h .amount)) (shortIn y n ls h)
+    first-same (gatheredShort c (h .amount)) (shortIn y n ls h)
     (λ d. ap (λ (z : ℤ). ltZ z (pos (h .amount))) (sym (w .sums d) ∙ ap (λ (m : ℕ). signedSum m (partIn y ls (h .user) (h .point) d)) e))
     (spanDays (h .first) (h .last))
     (h .first)

@@ -15,8 +15,8 @@ use Rattle.register.specs.declared.ledger.Line.{Line}
 use Rattle.parts.specs.Limits.{lineCount}
 use Rattle.holdings.specs.declared.ends.Bounds.{Bounds}
 use Rattle.holdings.specs.declared.holdings.Holding.{Holding}
-use Rattle.holdings.specs.declared.gathering.Cover.{Cover}
-use Rattle.holdings.specs.declared.gathering.Covers.{Covers}
+use Rattle.holdings.specs.declared.gathering.GatheredLine.{GatheredLine}
+use Rattle.holdings.specs.declared.gathering.Gathered.{Gathered}
 use Rattle.holdings.specs.Holdings.{signedSum, isHis, partIn}
 
 -- the days of a thermal year; where there is none, the first is after the last
@@ -33,25 +33,25 @@ abbrev pub isGathered : Holding → Bounds → Line → Bool
 isGathered h b l = isHis (h .user) (h .point) l && between (b .first) (b .last) (l .first)
 
 -- what is kept of it
-abbrev pub coverOf : ℕ → Line → Cover
-coverOf last l = record { first = l .first; last = endOf last l; amount = l .amount }
+abbrev pub gatheredLine : ℕ → Line → GatheredLine
+gatheredLine last l = record { first = l .first; last = endOf last l; amount = l .amount }
 
-abbrev pub noCover : Cover
-noCover = record { first = 0; last = 0; amount = pos 0 }
+abbrev pub noLine : GatheredLine
+noLine = record { first = 0; last = 0; amount = pos 0 }
 
 -- what it adds on a day
-abbrev pub coverOn : ℕ → Cover → ℤ
-coverOn d c = cond (between (c .first) (c .last) d) (c .amount) (pos 0)
+abbrev pub partOn : ℕ → GatheredLine → ℤ
+partOn d c = cond (between (c .first) (c .last) d) (c .amount) (pos 0)
 
-abbrev pub coverAt : List Cover → ℕ → ℕ → ℤ
-coverAt cs d k = coverOn d (getD cs k noCover)
+abbrev pub gatheredPart : List GatheredLine → ℕ → ℕ → ℤ
+gatheredPart cs d k = partOn d (getD cs k noLine)
 
 -- all lines gathered: on every day they sum to what the first n lines of the ledger do
-pub record Gathers (y n : ℕ) (ls : List ℕ) (h : Holding) (c : Covers) : Type 0 where
+pub record Gathers (y n : ℕ) (ls : List ℕ) (h : Holding) (c : Gathered) : Type 0 where
   pub few : c .count ≤ lineCount
   pub size : length (c .lines) ≡ lineCount
-  pub sums : (d : ℕ) → signedSum n (partIn y ls (h .user) (h .point) d) ≡ signedSum (c .count) (coverAt (c .lines) d)
+  pub sums : (d : ℕ) → signedSum n (partIn y ls (h .user) (h .point) d) ≡ signedSum (c .count) (gatheredPart (c .lines) d)
 
 -- too little on a day, of what was gathered
-abbrev pub coverShort : Covers → ℕ → ℕ → Bool
-coverShort c amount d = ltZ (signedSum (c .count) (coverAt (c .lines) d)) (pos amount)
+abbrev pub gatheredShort : Gathered → ℕ → ℕ → Bool
+gatheredShort c amount d = ltZ (signedSum (c .count) (gatheredPart (c .lines) d)) (pos amount)

@@ -5,7 +5,7 @@ ghost use lib.Signed.{mag};
 ghost use Rattle.calendar.specs.Days.{lastDay};
 ghost use Rattle.calendar.specs.Deadlines.{nextFirst};
 ghost use Rattle.parts.specs.Limits.{lineCount};
-ghost use Rattle.holdings.specs.Steps.{isGathered, coverOf, coverOn, Gathers};
+ghost use Rattle.holdings.specs.Steps.{isGathered, gatheredLine, partOn, Gathers};
 use crate::ends::Bounds;
 use crate::ends::bounds_of;
 use crate::ends::line_end;
@@ -13,15 +13,15 @@ use crate::holdings::Holding;
 use register::Line;
 
 // What a line adds, on each day from first to last.
-pub struct Cover {
+pub struct GatheredLine {
     pub first: u32,
     pub last: u32,
     pub amount: i32,
 }
 
 // The lines gathered, and how many they are.
-pub struct Covers {
-    pub lines: [Cover; 2048],
+pub struct Gathered {
+    pub lines: [GatheredLine; 2048],
     pub count: usize,
 }
 
@@ -33,12 +33,12 @@ fn is_gathered(l: Line, h: Holding, b: Bounds) -> bool
         & ((b.first <= l.first) & (l.first <= b.last))
 }
 
-fn cover_of(l: Line, last: u32) -> Cover
+fn gathered_line(l: Line, last: u32) -> GatheredLine
     requires { ⌜ nextFirst (l .first) ≤ lastDay ⌝ }
-    ensures { λ v. ⌜ v ≡ coverOf last l ⌝ }
+    ensures { λ v. ⌜ v ≡ gatheredLine last l ⌝ }
 {
     let end = line_end(l, last);
-    Cover {
+    GatheredLine {
         first: l.first,
         last: end,
         amount: l.amount,
@@ -46,8 +46,8 @@ fn cover_of(l: Line, last: u32) -> Cover
 }
 
 // What a line adds on a day.
-pub(crate) fn cover_on(c: Cover, day: u32) -> i64
-    ensures { λ v. ⌜ (v ≡ coverOn day c) × (mag v < 2147483648) ⌝ }
+pub(crate) fn part_on(c: GatheredLine, day: u32) -> i64
+    ensures { λ v. ⌜ (v ≡ partOn day c) × (mag v < 2147483648) ⌝ }
 {
     if (c.first <= day) & (day <= c.last) {
         return c.amount as i64;
@@ -56,28 +56,28 @@ pub(crate) fn cover_on(c: Cover, day: u32) -> i64
 }
 
 // Gathers the lines among the first n of the ledger.
-pub(crate) fn gather(year: u16, n: usize, ledger: &[u32], h: Holding) -> Covers
+pub(crate) fn gather(year: u16, n: usize, ledger: &[u32], h: Holding) -> Gathered
     requires { ⌜ n ≤ lineCount ⌝ }
     ensures { λ v. ⌜ Gathers year n (now (ledger .entry)) h v ⌝ }
 {
     let bounds = bounds_of(year);
-    let none = Cover {
+    let none = GatheredLine {
         first: 0,
         last: 0,
         amount: 0,
     };
     let lines = [none; 2048];
-    let mut covers = Covers { lines, count: 0 };
+    let mut gathered = Gathered { lines, count: 0 };
     let mut i: usize = 0;
     while i < n {
         let l = register::line_at(ledger, i);
         if is_gathered(l, h, bounds) {
-            let at = covers.count;
-            let c = cover_of(l, bounds.last);
-            covers.lines[at] = c;
-            covers.count = at + 1;
+            let at = gathered.count;
+            let c = gathered_line(l, bounds.last);
+            gathered.lines[at] = c;
+            gathered.count = at + 1;
         }
         i += 1;
     }
-    covers
+    gathered
 }

@@ -5,10 +5,10 @@ ghost use lib.ListN.{length};
 ghost use Rattle.parts.specs.Limits.{lineCount};
 ghost use Rattle.parts.specs.Amounts.{spanDays};
 ghost use Rattle.holdings.specs.Holdings.{firstShort, heldAnswer};
-ghost use Rattle.holdings.specs.Steps.{coverShort};
-use crate::gathering::Covers;
-use crate::gathering::cover_on;
+ghost use Rattle.holdings.specs.Steps.{gatheredShort};
+use crate::gathering::Gathered;
 use crate::gathering::gather;
+use crate::gathering::part_on;
 
 // An amount that a user is to hold at a point, on each day from first to last.
 #[repr(C)]
@@ -27,9 +27,9 @@ pub enum Held {
 }
 
 // The first gas-day from first to last on which the lines gathered sum to less than the amount.
-fn short_day(covers: Covers, first: u16, last: u16, amount: u32) -> Held
-    requires { ⌜ (covers .count ≤ lineCount) × (length (covers .lines) ≡ lineCount) ⌝ }
-    ensures { λ v. ⌜ v ≡ firstShort (coverShort covers amount) (spanDays first last) first ⌝ }
+fn short_day(gathered: Gathered, first: u16, last: u16, amount: u32) -> Held
+    requires { ⌜ (gathered .count ≤ lineCount) × (length (gathered .lines) ≡ lineCount) ⌝ }
+    ensures { λ v. ⌜ v ≡ firstShort (gatheredShort gathered amount) (spanDays first last) first ⌝ }
 {
     let mut day = first as u32;
     let held = 'days: loop {
@@ -39,14 +39,14 @@ fn short_day(covers: Covers, first: u16, last: u16, amount: u32) -> Held
         let mut sum: i64 = 0;
         let mut k: usize = 0;
         'lines: loop {
-            if covers.count <= k {
+            if gathered.count <= k {
                 if sum < amount as i64 {
                     break 'days Held::ShortOn(day as u16);
                 }
                 break 'lines;
             }
-            let c = covers.lines[k];
-            sum += cover_on(c, day);
+            let c = gathered.lines[k];
+            sum += part_on(c, day);
             k += 1;
         }
         day += 1;
@@ -68,6 +68,6 @@ fn used_lines(lines: u16) -> usize
 pub fn first_short_day(year: u16, lines: u16, ledger: &[u32], h: Holding) -> Held
     ensures { λ v. ⌜ v ≡ heldAnswer year lines (now (ledger .entry)) h ⌝ }
 {
-    let covers = gather(year, used_lines(lines), ledger, h);
-    short_day(covers, h.first, h.last, h.amount)
+    let gathered = gather(year, used_lines(lines), ledger, h);
+    short_day(gathered, h.first, h.last, h.amount)
 }

@@ -4,8 +4,8 @@ use Prim.Native.Nat.{ℕ, _-_, _≤_, _<_}
 use lib.ListN.{length, length-set}
 use Rattle.parts.specs.Limits.{lineCount}
 use Rattle.holdings.specs.Holdings.{signedSum, partIn}
-use Rattle.holdings.specs.Steps.{coverAt}
-use Rattle.holdings.specs.declared.gathering.Covers.{Covers}
+use Rattle.holdings.specs.Steps.{gatheredPart}
+use Rattle.holdings.specs.declared.gathering.Gathered.{Gathered}
 use Rattle.holdings.proofs.SumLaws.{sum-none}
 use Rattle.holdings.proofs.GatherLaws.{gathered-inside, one-gathered, one-left}
 use native.Mathlib.Omega.{arith}
@@ -14,11 +14,11 @@ use Rattle.holdings.proofs.gathering.gather.Statement.{statement}
 use Rattle.holdings.proofs.gathering.gather.Tie as tie
 
 abbrev Inv-loop : tie.InvT-loop
-Inv-loop year n ledger h bounds covers₀ i₀ covers i =
-    (covers .count ≤ i) × (i ≤ n) × (length (covers .lines) ≡ lineCount) × ((d : ℕ) → signedSum i (partIn year ledger (h .user) (h .point) d) ≡ signedSum (covers .count) (coverAt (covers .lines) d))
+Inv-loop year n ledger h bounds gathered₀ i₀ gathered i =
+    (gathered .count ≤ i) × (i ≤ n) × (length (gathered .lines) ≡ lineCount) × ((d : ℕ) → signedSum i (partIn year ledger (h .user) (h .point) d) ≡ signedSum (gathered .count) (gatheredPart (gathered .lines) d))
 
 abbrev μ-loop : tie.MeasureT-loop
-μ-loop year n ledger h bounds covers₀ i₀ covers i = n - i
+μ-loop year n ledger h bounds gathered₀ i₀ gathered i = n - i
 
 bounds-of-requires : tie.Need-bounds-of-requires Inv-loop μ-loop
 bounds-of-requires c κs = search needs
@@ -32,8 +32,8 @@ line-at-requires c κs = search needs
 is-gathered-requires : tie.Need-is-gathered-requires Inv-loop μ-loop
 is-gathered-requires c κs = search needs
 
-cover-of-requires : tie.Need-cover-of-requires Inv-loop μ-loop
-cover-of-requires c κs =
+gathered-line-requires : tie.Need-gathered-line-requires Inv-loop μ-loop
+gathered-line-requires c κs =
     let st = c .before .before .before .before .before .before .before in
     gathered-inside (st .args .year) (st .args .h) (c .before .before .before .before .before .bounds-of .result) (c .before .before .line-at .result) (c .before .before .before .before .before .bounds-of .ensures) (sym (c .before .is-gathered .ensures) ∙ c .if1 .taken)
 
@@ -43,8 +43,8 @@ mul-c c = search needs
 element-set-from-c : tie.Need-element-set-from-c Inv-loop μ-loop
 element-set-from-c c = search needs
 
-add-covers : tie.Need-add-covers Inv-loop μ-loop
-add-covers c = search needs
+add-gathered : tie.Need-add-gathered Inv-loop μ-loop
+add-gathered c = search needs
 
 add-i : tie.Need-add-i Inv-loop μ-loop
 add-i c = search needs
@@ -59,21 +59,21 @@ loop-again c =
     let at = l .before .before in
     let b = at .before in
     let st = b .before .before in
-    let inside : at .loop .covers .count < length (at .loop .covers .lines) = omega arith in
+    let inside : at .loop .gathered .count < length (at .loop .gathered .lines) = omega arith in
     ⊎-elim
     (λ w. (
-      omega (arith, ap (λ (v : Covers). v .count) (w .2)),
+      omega (arith, ap (λ (v : Gathered). v .count) (w .2)),
       omega arith,
-      ap (λ (v : Covers). length (v .lines)) (w .2) ∙ simp length-set (at .loop .inv .2),
-      one-gathered (st .args .year) (st .args .ledger .now) (st .args .h) (at .loop .i) (b .bounds-of .result) (l .line-at .result) (b .bounds-of .ensures) (l .line-at .ensures) (at .loop .covers .lines) (at .loop .covers .count) (at .loop .inv .3)
-          (w .1 .result) _ _ (sym (g .is-gathered .ensures) ∙ w .0 .taken) (w .1 .ensures) inside (ap (λ (v : Covers). v .lines) (w .2)) (ap (λ (v : Covers). v .count) (w .2)),
+      ap (λ (v : Gathered). length (v .lines)) (w .2) ∙ simp length-set (at .loop .inv .2),
+      one-gathered (st .args .year) (st .args .ledger .now) (st .args .h) (at .loop .i) (b .bounds-of .result) (l .line-at .result) (b .bounds-of .ensures) (l .line-at .ensures) (at .loop .gathered .lines) (at .loop .gathered .count) (at .loop .inv .3)
+          (w .1 .result) _ _ (sym (g .is-gathered .ensures) ∙ w .0 .taken) (w .1 .ensures) inside (ap (λ (v : Gathered). v .lines) (w .2)) (ap (λ (v : Gathered). v .count) (w .2)),
     ))
     (λ w. (
-      omega (arith, ap (λ (v : Covers). v .count) (w .1)),
+      omega (arith, ap (λ (v : Gathered). v .count) (w .1)),
       omega arith,
-      ap (λ (v : Covers). length (v .lines)) (w .1) ∙ at .loop .inv .2,
-      one-left (st .args .year) (st .args .ledger .now) (st .args .h) (at .loop .i) (b .bounds-of .result) (l .line-at .result) (b .bounds-of .ensures) (l .line-at .ensures) (at .loop .covers .lines) (at .loop .covers .count) (at .loop .inv .3)
-          _ _ (sym (g .is-gathered .ensures) ∙ w .0 .left) (ap (λ (v : Covers). v .lines) (w .1)) (ap (λ (v : Covers). v .count) (w .1)),
+      ap (λ (v : Gathered). length (v .lines)) (w .1) ∙ at .loop .inv .2,
+      one-left (st .args .year) (st .args .ledger .now) (st .args .h) (at .loop .i) (b .bounds-of .result) (l .line-at .result) (b .bounds-of .ensures) (l .line-at .ensures) (at .loop .gathered .lines) (at .loop .gathered .count) (at .loop .inv .3)
+          _ _ (sym (g .is-gathered .ensures) ∙ w .0 .left) (ap (λ (v : Gathered). v .lines) (w .1)) (ap (λ (v : Gathered). v .count) (w .1)),
     ))
     (c .if1 .came)
 
@@ -98,10 +98,10 @@ gather-spec =
     loop-holds
     line-at-requires
     is-gathered-requires
-    cover-of-requires
+    gathered-line-requires
     mul-c
     element-set-from-c
-    add-covers
+    add-gathered
     add-i
     loop-less
     loop-again

@@ -10,7 +10,7 @@ use mir.Facts.{toZ-ofZ}
 use Rattle.parts.specs.Limits.{lineCount}
 use Rattle.parts.specs.Amounts.{spanDays}
 use Rattle.holdings.specs.Holdings.{signedSum, firstShort}
-use Rattle.holdings.specs.Steps.{coverAt, coverShort}
+use Rattle.holdings.specs.Steps.{gatheredPart, gatheredShort}
 use Rattle.holdings.proofs.SumLaws.{sum-none, sum-more, added, added-fits, added-small}
 use Rattle.holdings.proofs.HeldLaws.{first-none, first-hit, first-miss}
 use native.Mathlib.Omega.{arith}
@@ -19,18 +19,18 @@ use Rattle.holdings.proofs.holdings.short_day.Statement.{statement}
 use Rattle.holdings.proofs.holdings.short_day.Tie as tie
 
 abbrev Inv-lines : tie.InvT-lines
-Inv-lines first last amount covers day sum₀ k₀ sum k =
-    (k ≤ covers .count) × (toZ w64 sum ≡ signedSum k (coverAt (covers .lines) day)) × (mag (toZ w64 sum) ≤ 2147483648 * k)
+Inv-lines first last amount gathered day sum₀ k₀ sum k =
+    (k ≤ gathered .count) × (toZ w64 sum ≡ signedSum k (gatheredPart (gathered .lines) day)) × (mag (toZ w64 sum) ≤ 2147483648 * k)
 
 abbrev μ-lines : tie.MeasureT-lines
-μ-lines first last amount covers day sum₀ k₀ sum k = covers .count - k
+μ-lines first last amount gathered day sum₀ k₀ sum k = gathered .count - k
 
 abbrev Inv-days : tie.InvT-days
-Inv-days first last amount covers day₀ day =
-    firstShort (coverShort covers amount) (spanDays first last) first ≡ firstShort (coverShort covers amount) (spanDays day last) day
+Inv-days first last amount gathered day₀ day =
+    firstShort (gatheredShort gathered amount) (spanDays first last) first ≡ firstShort (gatheredShort gathered amount) (spanDays day last) day
 
 abbrev μ-days : tie.MeasureT-days
-μ-days first last amount covers day₀ day = spanDays day last
+μ-days first last amount gathered day₀ day = spanDays day last
 
 days-holds : tie.Need-days-holds Inv-lines μ-lines Inv-days μ-days
 days-holds c = refl
@@ -50,13 +50,13 @@ mul-c c = search needs
 element-copy-out-c : tie.Need-element-copy-out-c Inv-lines μ-lines Inv-days μ-days
 element-copy-out-c c = search needs
 
-cover-on-requires : tie.Need-cover-on-requires Inv-lines μ-lines Inv-days μ-days
-cover-on-requires c κs = search needs
+part-on-requires : tie.Need-part-on-requires Inv-lines μ-lines Inv-days μ-days
+part-on-requires c κs = search needs
 
 add-sum : tie.Need-add-sum Inv-lines μ-lines Inv-days μ-days
 add-sum c =
     let at = c .before .before .before in
-    added-fits (at .lines .sum) (c .cover-on .result) (at .lines .k) (at .lines .inv .2) (omega arith) (c .cover-on .ensures .1)
+    added-fits (at .lines .sum) (c .part-on .result) (at .lines .k) (at .lines .inv .2) (omega arith) (c .part-on .ensures .1)
 
 add-k : tie.Need-add-k Inv-lines μ-lines Inv-days μ-days
 add-k c = search needs
@@ -68,21 +68,21 @@ lines-again : tie.Need-lines-again Inv-lines μ-lines Inv-days μ-days
 lines-again c =
     let at = c .before .before .before in
     let few : at .lines .k < lineCount = omega arith in
-    let x = c .cover-on .result in
-    let e = added (at .lines .sum) x (at .lines .k) (at .lines .inv .2) few (c .cover-on .ensures .1) in (
+    let x = c .part-on .result in
+    let e = added (at .lines .sum) x (at .lines .k) (at .lines .inv .2) few (c .part-on .ensures .1) in (
       omega arith,
-      e ∙ rw sum-more (ap₂ _+ℤ_ (at .lines .inv .1) (c .cover-on .ensures .0)),
-      rw e (added-small (at .lines .sum) x (at .lines .k) (at .lines .inv .2) few (c .cover-on .ensures .1)),
+      e ∙ rw sum-more (ap₂ _+ℤ_ (at .lines .inv .1) (c .part-on .ensures .0)),
+      rw e (added-small (at .lines .sum) x (at .lines .k) (at .lines .inv .2) few (c .part-on .ensures .1)),
     )
 
 -- after the last line the test is the definition's
 test : (c : tie.Then2 Inv-lines μ-lines Inv-days μ-days)
     → (let d = c .before .before .before in
-    ltZ (toZ w64 (c .before .lines .sum)) (toZ w64 (ofZ w64 (pos (d .before .args .amount)))) ≡ coverShort (d .before .args .t1) (d .before .args .amount) (d .days .day))
+    ltZ (toZ w64 (c .before .lines .sum)) (toZ w64 (ofZ w64 (pos (d .before .args .amount)))) ≡ gatheredShort (d .before .args .t1) (d .before .args .amount) (d .days .day))
 test c =
     let d = c .before .before .before in
     ap₂ ltZ
-    (c .before .lines .inv .1 ∙ ap (λ (k : ℕ). signedSum k (coverAt (d .before .args .t1 .lines) (d .days .day))) (omega arith))
+    (c .before .lines .inv .1 ∙ ap (λ (k : ℕ). signedSum k (gatheredPart (d .before .args .t1 .lines) (d .days .day))) (omega arith))
     (toZ-ofZ {w = w64} (record { sfits = lt-trans (d .before .fits .amount .fits) (lit< tt) }))
 
 add-day : tie.Need-add-day Inv-lines μ-lines Inv-days μ-days
@@ -114,7 +114,7 @@ short-day-spec =
     cast-t18
     mul-c
     element-copy-out-c
-    cover-on-requires
+    part-on-requires
     add-sum
     add-k
     lines-less

@@ -6,8 +6,8 @@ use mir.Val.{SFits, toZ, ofZ}
 use mir.Facts.{toZ-ofZ, sfits-widen}
 use Rattle.calendar.specs.Days.{between}
 use native.Mathlib.Omega.{arith}
-use Rattle.holdings.proofs.gathering.cover_on.Statement.{statement}
-use Rattle.holdings.proofs.gathering.cover_on.Tie as tie
+use Rattle.holdings.proofs.gathering.part_on.Statement.{statement}
+use Rattle.holdings.proofs.gathering.part_on.Tie as tie
 
 -- the amount of a line fits 64 bits too
 fits : (c : tie.After-struct-told) → SFits w32 (c .before .before .before .before .before .args .c .amount)
@@ -27,5 +27,5 @@ returns c =
 returns-2 : tie.Need-returns-2
 returns-2 c = (rw (c .if1 .left), omega arith)
 
-pub cover-on-spec : {M : Type 1} → statement M
-cover-on-spec = tie.close (tie.spec cast-result returns returns-2)
+pub part-on-spec : {M : Type 1} → statement M
+part-on-spec = tie.close (tie.spec cast-result returns returns-2)

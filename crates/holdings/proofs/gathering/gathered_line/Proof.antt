@@ -3,8 +3,8 @@ use mir.Syntax.{w32}
 use mir.Val.{toZ, ofZ}
 use mir.Facts.{toZ-ofZ}
 use borrow.Author.Needs.{needs}
-use Rattle.holdings.proofs.gathering.cover_of.Statement.{statement}
-use Rattle.holdings.proofs.gathering.cover_of.Tie as tie
+use Rattle.holdings.proofs.gathering.gathered_line.Statement.{statement}
+use Rattle.holdings.proofs.gathering.gathered_line.Tie as tie
 
 line-end-requires : tie.Need-line-end-requires
 line-end-requires c κs = search needs
@@ -15,5 +15,5 @@ returns c =
     let back : toZ w32 (ofZ w32 z) ≡ z = toZ-ofZ (record { sfits = c .struct-told .given .1 .1 .1 .1 .0 .1 }) in
     rw (c .before .line-end .ensures, back)
 
-pub cover-of-spec : {M : Type 1} → statement M
-cover-of-spec = tie.close (tie.spec line-end-requires returns)
+pub gathered-line-spec : {M : Type 1} → statement M
+gathered-line-spec = tie.close (tie.spec line-end-requires returns)

@@ -1,6 +1,6 @@
 use borrow.Author.Needs.{needs}
-use Rattle.cessions.proofs.answers.settlement_number.Statement.{statement}
-use Rattle.cessions.proofs.answers.settlement_number.Tie as tie
+use Rattle.cessions.proofs.answers.cession_number.Statement.{statement}
+use Rattle.cessions.proofs.answers.cession_number.Tie as tie
 
 enum-told : tie.Need-enum-told
 enum-told c = search needs
@@ -17,6 +17,6 @@ returns c = rw (c .enum-told .given .1)
 returns-2 : tie.Need-returns-2
 returns-2 c = search needs
 
-pub settlement-number-spec : {M : Type 1} → statement M
-settlement-number-spec =
+pub cession-number-spec : {M : Type 1} → statement M
+cession-number-spec =
     tie.close (tie.spec enum-told enum-known-answer refusal-number-requires returns returns-2)
