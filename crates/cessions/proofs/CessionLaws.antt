@@ -8,18 +8,14 @@ use lib.Dec.{ltb, eqb}
 use borrow.Author.Tests.{ltb-true, eqb-false, not-true}
 use Rattle.calendar.specs.declared.thermal_years.Span.the-variants.{Days, OutsideCalendar}
 use Rattle.calendar.specs.Days.{between}
-use Rattle.calendar.specs.ThermalYears.{thermalFirst, thermalLast}
-use Rattle.calendar.proofs.Ranges.{and-left, and-right, both, Within, within, is-between}
+use Rattle.calendar.proofs.Ranges.{and-left, and-right, Within, within}
 use Rattle.calendar.proofs.SpanLaws.{chosen, unchosen}
 use Rattle.parts.specs.declared.accounts.Account.{Account}
 use Rattle.parts.specs.declared.registers.Register.{Register}
 use Rattle.parts.specs.Limits.{pointCount, userCount, mostAmount}
-use Rattle.parts.specs.Registers.{State, accountAt, withAccount}
-use Rattle.register.specs.Ledger.{lineAt}
+use Rattle.parts.specs.Registers.{accountAt, withAccount}
 use Rattle.parts.specs.Charges.{discharged}
-use Rattle.register.specs.Order.{inOrder}
 use Rattle.parts.specs.Answers.{Question, numberOf}
-use Rattle.register.proofs.OrderFacts.{ordered, line-facts}
 use Rattle.register.proofs.OrderKept.{account-other}
 use Rattle.conferral.specs.Spans.{arrives, annualAnswer}
 use Rattle.conferral.specs.declared.bookings.Grant.{Grant}
@@ -28,26 +24,13 @@ use Rattle.conferral.proofs.SpanLaws.{SpanFacts, span-facts, arrival-year}
 use Rattle.conferral.proofs.RoomLaws.{charge-within}
 use Rattle.holdings.specs.declared.holdings.Holding.{Holding}
 use Rattle.holdings.specs.declared.holdings.Held.{Held}
-use Rattle.holdings.specs.Holdings.{heldAnswer, isThroughout}
+use Rattle.holdings.specs.Holdings.{LinesIn, heldAnswer, isThroughout}
 use Rattle.holdings.proofs.HeldLaws.{held-answer}
 use Rattle.cessions.specs.declared.ceding.Cession.{Cession}
 use Rattle.cessions.specs.declared.ceding.Decision.{Decision}
 use Rattle.cessions.specs.declared.ceding.Decision.the-variants.{Cede, Refuse}
 use Rattle.cessions.specs.CedeCapacity.{cessionFields, giverOf, receiverOf, spanFirst, spanLast, isInYear, givenOf, isHeld, chargeOf, chargeMoved}
-use Rattle.cessions.specs.Steps.{spanAnswer, handoverOf, Decides, Spanned, LinesIn}
-
--- ---- question 1
--- it tells of the used lines that each begins in the year
-pub lines-in : (s : State) → inOrder s ≡ true → LinesIn (s .register) (s .ledger)
-lines-in s h =
-    let o = ordered s h in
-    let r = s .register in
-    record {
-      few = o .few;
-      firsts = λ i l.
-          let f = line-facts (r .year) (r .points) (r .accounts) (lineAt (s .ledger) i) (o .lines i l) in
-          both _ _ (o .year) (is-between (thermalFirst (r .year)) (thermalLast (r .year)) (lineAt (s .ledger) i .first) (f .first .from) (f .first .to));
-    }
+use Rattle.cessions.specs.Steps.{spanAnswer, handoverOf, Decides, Spanned}
 
 -- ---- question 2
 pub record FieldFacts (c : Cession) : Type 0 where
@@ -106,12 +89,12 @@ module _ (r : Register) (c : Cession) where
       → h ≡ givenOf r c
   given-is first last w h e = e ∙ rw (w .begins, w .ends)
 
-  pub held-asks : (first last : ℕ) → Spanned r c first last → (ls : List ℕ) → LinesIn r ls → (v : Held)
+  pub held-asks : (first last : ℕ) → Spanned r c first last → (ls : List ℕ) → LinesIn (r .year) (r .lines) ls → (v : Held)
       → v ≡ heldAnswer (r .year) (r .lines) ls (record { user = c .giver; point = c .point; first = first; last = last; amount = c .amount })
       → isThroughout v ≡ isHeld r ls c
   held-asks first last w ls l v e =
       ap isThroughout (e ∙ ap (heldAnswer (r .year) (r .lines) ls) (given-is first last w _ refl))
-      ∙ held-answer (r .year) (r .lines) ls (l .few) (l .firsts) (givenOf r c)
+      ∙ held-answer (r .year) (r .lines) ls l (givenOf r c)
 
   -- ---- the charge
   pub charge-is : (first last kind : ℕ) → FieldFacts c → Spanned r c first last → Within 1 3 kind → (g : Grant)

@@ -2,3 +2,4 @@ pub mod CessionLaws
 pub mod AnswerLaws
 pub mod CededLaws
 pub mod RefusalLaws
+pub mod MovedLaws

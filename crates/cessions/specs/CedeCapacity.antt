@@ -98,10 +98,11 @@ chargeQuestions r c =
     ∷ 13 asks linesLeft r 2
     ∷ []
 
--- questions 8, 9 and 10, then these
+-- question 10, then these
 abbrev pub heldQuestions : Register → List ℕ → Cession → List Question
 heldQuestions r ls c = 10 asks isHeld r ls c ∷ chargeQuestions r c
 
+-- questions 8 and 9, then these
 abbrev pub spanQuestions : Register → List ℕ → Cession → List Question
 spanQuestions r ls c = 8 asks isInYear r c ∷ 9 asks isInTime c ∷ heldQuestions r ls c
 

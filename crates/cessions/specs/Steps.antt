@@ -1,14 +1,11 @@
 -- Terms of the contracts of private functions: how the code goes about it. No contract that a caller reads rests on them.
 -- Assumes nothing.
-use Prim.Native.Nat.{ℕ, _<_, _≤_}
+use Prim.Native.Nat.{ℕ}
 use mathlib.Core.Path.{_≡_}
 use mathlib.Core.Bool.{true}
 use mathlib.Core.List.{List}
 use Rattle.calendar.specs.declared.thermal_years.Span.{Span}
-use Rattle.calendar.specs.ThermalYears.{inThermalYear}
 use Rattle.parts.specs.declared.registers.Register.{Register}
-use Rattle.parts.specs.Limits.{lineCount}
-use Rattle.register.specs.Ledger.{lineAt}
 use Rattle.parts.specs.Answers.{numberOfRefusal, Question, numberOf}
 use Rattle.conferral.specs.Spans.{annualFirst, annualLast, spanOk, spanWhere}
 use Rattle.cessions.specs.declared.ceding.Cession.{Cession}
@@ -35,8 +32,3 @@ pub record Spanned (r : Register) (c : Cession) (first last : ℕ) : Type 0 wher
   pub begins : first ≡ spanFirst c
   pub ends : last ≡ spanLast r
   pub fits : isInYear r c ≡ true
-
--- what question 1 tells of the used lines: they are not too many, and each begins in the year
-pub record LinesIn (r : Register) (ls : List ℕ) : Type 0 where
-  pub few : r .lines ≤ lineCount
-  pub firsts : (i : ℕ) → i < r .lines → inThermalYear (r .year) (lineAt ls i .first) ≡ true

@@ -4,10 +4,10 @@ ghost use mathlib.Core.Bool.{true};
 ghost use Prim.Native.Nat.{_≤_, _+_};
 ghost use Rattle.parts.specs.Limits.{lineCount, mostGuarantee};
 ghost use Rattle.parts.specs.Registers.{state, withLines};
-ghost use Rattle.conferral.specs.Spans.{arrives};
 ghost use Rattle.conferral.specs.Bookings.{covers};
-ghost use Rattle.cessions.specs.CedeCapacity.{numberOfAnswer, amountOfAnswer, cessionFields, receiverOf, bothOnFile, isInTime, chargeOf, chargeMoved, annualLine, withTwoLines, chargeQuestions, heldQuestions, spanQuestions, cessionQuestions, cessionNumber, cessionAmount, cessionAfter};
-ghost use Rattle.cessions.specs.Steps.{spanAnswer, handoverOf, Decides, Spanned, LinesIn};
+ghost use Rattle.holdings.specs.Holdings.{LinesIn};
+ghost use Rattle.cessions.specs.CedeCapacity.{numberOfAnswer, amountOfAnswer, cessionFields, receiverOf, bothOnFile, chargeOf, chargeMoved, annualLine, withTwoLines, chargeQuestions, heldQuestions, spanQuestions, cessionQuestions, cessionNumber, cessionAmount, cessionAfter};
+ghost use Rattle.cessions.specs.Steps.{spanAnswer, handoverOf, Decides, Spanned};
 use crate::answers::Ceded;
 use crate::answers::CessionAnswer;
 use calendar::Span;
@@ -118,7 +118,7 @@ fn decide_charge(r: Register, c: Cession, h: Handover) -> Decision
 
 // Question 10 of the days from first to last, and those that follow.
 fn decide_held(r: Register, ledger: &[u32], c: Cession, first: u16, last: u16) -> Decision
-    requires { ⌜ (cessionFields c ≡ true) × (Spanned r c first last × LinesIn r (now ledger)) ⌝ }
+    requires { ⌜ (cessionFields c ≡ true) × (Spanned r c first last × LinesIn (r .year) (r .lines) (now ledger)) ⌝ }
     ensures { λ d. ⌜ Decides (heldQuestions r (now (ledger .entry)) c) r c d ⌝ }
 {
     let given = Holding {
@@ -138,23 +138,15 @@ fn decide_held(r: Register, ledger: &[u32], c: Cession, first: u16, last: u16) -
     }
 }
 
-// Question 9.
-fn is_in_time(year: u16, c: Cession) -> bool
-    requires { ⌜ arrives year (c .arrival) ≡ true ⌝ }
-    ensures { λ v. ⌜ v ≡ isInTime c ⌝ }
-{
-    conferral::is_timely(calendar::in_time_own_month(c.arrival, DEADLINE))
-}
-
 // Questions 8 and 9, and those that follow.
 fn decide_span(r: Register, ledger: &[u32], c: Cession) -> Decision
-    requires { ⌜ (cessionFields c ≡ true) × LinesIn r (now ledger) ⌝ }
+    requires { ⌜ (cessionFields c ≡ true) × LinesIn (r .year) (r .lines) (now ledger) ⌝ }
     ensures { λ d. ⌜ Decides (spanQuestions r (now (ledger .entry)) c) r c d ⌝ }
 {
     let span = span_of(r.year, c.arrival);
     match span {
         Span::Days(first, last) => {
-            if !is_in_time(r.year, c) {
+            if !conferral::is_timely(calendar::in_time_own_month(c.arrival, DEADLINE)) {
                 return Decision::Refuse(Refusal::Late);
             }
             decide_held(r, ledger, c, first, last)

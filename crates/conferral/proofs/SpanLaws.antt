@@ -2,7 +2,7 @@
 -- Assumes nothing.
 use mathlib.Core.Path.{_≡_, refl}
 use mathlib.Core.Bool.{Bool, true, false, cond, _&&_, and-true, and-false}
-use Prim.Native.Nat.{ℕ, _+_, _≤_}
+use Prim.Native.Nat.{ℕ, _+_, _≤_, _<_}
 use native.Mathlib.Omega.{arith}
 use lib.Dec.{leb}
 use borrow.Author.Tests.{leb-true, leb-false, le-leb, lt-leb}
@@ -14,8 +14,9 @@ use Rattle.calendar.specs.Deadlines.{nextFirst, inTimeOwn, inTimePreceding}
 use Rattle.calendar.specs.Answers.{dayIn, nextFirstAnswer, ownAnswer, precedingAnswer}
 use Rattle.calendar.proofs.Ranges.{and-left, and-right, both, within}
 use Rattle.calendar.proofs.DateLaws.{month-next}
+use Rattle.calendar.proofs.DeadlineLaws.{next-of, next-beyond}
 use Rattle.parts.proofs.CalendarLaws.{year-facts}
-use Rattle.conferral.specs.Spans.{arrives, spanFits, spanInYear, spanOk, spanWhere, annualAnswer, isTimely}
+use Rattle.conferral.specs.Spans.{arrives, spanFits, spanInYear, spanOk, spanWhere, annualFirst, annualLast, annualAnswer, isTimely}
 use Rattle.conferral.specs.Steps.{spanFrom}
 
 -- 1 September lies 30 days before the year
@@ -84,6 +85,17 @@ span-facts y a first last h =
       arrived = p;
       fit = fit-facts y first last (and-right (arrives y a) (spanFits y first last) h);
     }
+
+-- from an arrival in September Y the span begins with the year, and "A September Y+1 arrival leaves none"
+pub september-first : (y a : ℕ) → 2000 ≤ y → dayNumber y 9 1 ≤ a → a < thermalFirst y → annualFirst a ≡ thermalFirst y
+september-first y a h from to =
+    let e = next-of y 9 a h (record { from = omega arith; to = omega arith }) (omega (arith, from)) (omega (arith, to, month-next y 9 (omega arith))) in
+    omega (arith, e)
+
+pub september-none : (y a : ℕ) → 2000 ≤ y → dayNumber (y + 1) 9 1 ≤ a → spanOk y a (annualFirst a) (annualLast y) ≡ false
+september-none y a h from =
+    let past : leb (nextFirst a) (thermalLast y) ≡ false = lt-leb (nextFirst a) (thermalLast y) (next-beyond y a h from) in
+    rw (past, and-false, and-false)
 
 -- whether an arrival is in time, as the calendar answers it
 timely-if : (t : Bool) → isTimely (cond t InTime Late) ≡ t

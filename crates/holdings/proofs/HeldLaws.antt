@@ -3,7 +3,7 @@
 -- Assumes nothing.
 use mathlib.Core.Path.{_≡_, refl, sym, ap, _∙_, subst}
 use mathlib.Core.Bool.{Bool, true, false, cond, not, _&&_, and-true, and-assoc, true≢false}
-use mathlib.Core.List.{List}
+use mathlib.Core.List.{List, [], _∷_}
 use Prim.Native.Nat.{ℕ, zero, suc, _+_, _-_, _≤_, _<_, min}
 use native.Mathlib.Decide.{ℕ-discrete}
 use native.Mathlib.Nat.{add-zero}
@@ -11,16 +11,21 @@ use native.Mathlib.Numerals.{add-one}
 use native.Mathlib.Omega.{arith}
 use lib.IntN.{ℤ, pos}
 use lib.Signed.{ltZ}
-use Rattle.calendar.specs.ThermalYears.{inThermalYear}
+use Rattle.calendar.specs.ThermalYears.{thermalFirst, thermalLast}
+use Rattle.calendar.proofs.Ranges.{both, is-between}
 use Rattle.parts.specs.Limits.{lineCount}
 use Rattle.parts.specs.Tests.{allBelow}
+use Rattle.parts.specs.Registers.{State}
+use Rattle.parts.specs.Answers.{_asks_, numberOf}
 use Rattle.register.specs.Ledger.{lineAt}
+use Rattle.register.specs.Order.{inOrder}
+use Rattle.register.proofs.OrderFacts.{ordered, line-facts}
 use Rattle.parts.specs.Amounts.{spanDays}
 use Rattle.parts.proofs.TestLaws.{all-none, all-same}
 use Rattle.holdings.specs.declared.holdings.Holding.{Holding}
 use Rattle.holdings.specs.declared.holdings.Held.{Held}
 use Rattle.holdings.specs.declared.holdings.Held.the-variants.{Throughout, ShortOn}
-use Rattle.holdings.specs.Holdings.{signedSum, partAt, partIn, heldOn, heldIn, shortIn, tooLittle, holdsThroughout, firstShort, heldAnswer, isThroughout}
+use Rattle.holdings.specs.Holdings.{signedSum, partAt, partIn, heldOn, heldIn, shortIn, tooLittle, holdsThroughout, firstShort, LinesIn, heldAnswer, isThroughout, numberOfHeld}
 use Rattle.holdings.specs.declared.gathering.Gathered.{Gathered}
 use Rattle.holdings.specs.Steps.{Gathers, gatheredShort}
 use Rattle.holdings.proofs.SumLaws.{sum-same}
@@ -113,14 +118,29 @@ throughout-is short (suc n) d =
         (rest ∙ all-same (λ (k : ℕ). not (short (suc d + k))) (λ (k : ℕ). not (short (d + suc k))) n (λ k l. ap (λ (j : ℕ). not (short j)) (omega arith)))
 
 -- ---- in a register that is in order
-module _ (y n : ℕ) (ls : List ℕ) (few : n ≤ lineCount) (firsts : (i : ℕ) → i < n → inThermalYear y (lineAt ls i .first) ≡ true) where
+as-number : (v : Held) → numberOfHeld v ≡ cond (isThroughout v) 0 10
+as-number Throughout = refl
+as-number (ShortOn d) = refl
+
+pub lines-in : (s : State) → inOrder s ≡ true → LinesIn (s .register .year) (s .register .lines) (s .ledger)
+lines-in s h =
+    let o = ordered s h in
+    let r = s .register in
+    record {
+      few = o .few;
+      firsts = λ i l.
+          let f = line-facts (r .year) (r .points) (r .accounts) (lineAt (s .ledger) i) (o .lines i l) in
+          both _ _ (o .year) (is-between (thermalFirst (r .year)) (thermalLast (r .year)) (lineAt (s .ledger) i .first) (f .first .from) (f .first .to));
+    }
+
+module _ (y n : ℕ) (ls : List ℕ) (w : LinesIn y n ls) where
   -- no line is left out
   pub held-in : (user point d : ℕ) → heldIn y n ls user point d ≡ heldOn y n ls user point d
   unfolding heldIn heldOn
   held-in user point d =
-      let all : min n lineCount ≡ n = omega (arith, few) in
+      let all : min n lineCount ≡ n = omega (arith, w .few) in
       rw all
-      (sum-same n (partIn y ls user point d) (partAt y ls user point d) (λ k l. ap (λ (t : Bool). cond t (partAt y ls user point d k) (pos 0)) (firsts k l)))
+      (sum-same n (partIn y ls user point d) (partAt y ls user point d) (λ k l. ap (λ (t : Bool). cond t (partAt y ls user point d k) (pos 0)) (w .firsts k l)))
 
   short-in : (h : Holding) (d : ℕ) → shortIn y n ls h d ≡ tooLittle y n ls h d
   short-in h d = ap (λ (z : ℤ). ltZ z (pos (h .amount))) (held-in (h .user) (h .point) d)
@@ -131,6 +151,9 @@ module _ (y n : ℕ) (ls : List ℕ) (few : n ≤ lineCount) (firsts : (i : ℕ)
   held-answer h =
       ap isThroughout (first-same (shortIn y n ls h) (tooLittle y n ls h) (short-in h) (spanDays (h .first) (h .last)) (h .first))
       ∙ throughout-is (tooLittle y n ls h) (spanDays (h .first) (h .last)) (h .first)
+
+  pub held-number : (h : Holding) → numberOfHeld (heldAnswer y n ls h) ≡ numberOf (10 asks holdsThroughout y n ls h ∷ [])
+  held-number h = as-number (heldAnswer y n ls h) ∙ ap (λ (t : Bool). cond t 0 10) (held-answer h)
 
   -- and else the first that has is named
   pub held-short : (h : Holding) (e : ℕ) → heldAnswer y n ls h ≡ ShortOn e → First (tooLittle y n ls h) (spanDays (h .first) (h .last)) (h .first) e

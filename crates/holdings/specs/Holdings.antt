@@ -1,7 +1,8 @@
 -- Document 01, question 10: "Does the giver hold the amount on every day of the span? Held is the sum of his ledger lines there; the
 -- first gas-day with too little settles it."
 -- Assumes nothing.
-use Prim.Native.Nat.{ℕ, zero, suc, _+_, min}
+use Prim.Native.Nat.{ℕ, zero, suc, _+_, _≤_, _<_, min}
+use mathlib.Core.Path.{_≡_}
 use mathlib.Core.Bool.{Bool, true, false, cond, not, _&&_}
 use mathlib.Core.List.{List}
 use lib.Dec.{eqb}
@@ -35,10 +36,11 @@ coversDay y d l = between (l .first) (lineLast y l) d
 abbrev pub partOf : ℕ → ℕ → ℕ → ℕ → Line → ℤ
 partOf y user point d l = cond (isHis user point l && coversDay y d l) (l .amount) (pos 0)
 
--- "Held is the sum of his ledger lines there": on gas-day d, over the n lines of the ledger that are used
+-- the same of line i of the ledger
 abbrev pub partAt : ℕ → List ℕ → ℕ → ℕ → ℕ → ℕ → ℤ
 partAt y ls user point d i = partOf y user point d (lineAt ls i)
 
+-- "Held is the sum of his ledger lines there": on gas-day d, over the n lines of the ledger that are used
 unfoldable pub heldOn : ℕ → ℕ → List ℕ → ℕ → ℕ → ℕ → ℤ
 heldOn y n ls user point d = signedSum n (partAt y ls user point d)
 
@@ -59,8 +61,13 @@ firstShort short zero d = Throughout
 firstShort short (suc n) d = cond (short d) (ShortOn d) (firstShort short n (suc d))
 
 -- ---- the same for any register, also for one that is not in order
+-- what question 1 asks of the n lines that are used, so far as it matters here: they are at most 2,048, and each begins in the year
+pub record LinesIn (y n : ℕ) (ls : List ℕ) : Type 0 where
+  pub few : n ≤ lineCount
+  pub firsts : (i : ℕ) → i < n → inThermalYear y (lineAt ls i .first) ≡ true
+
 -- a line whose first day lies outside the year adds nothing, and no line is counted after the 2,048th. In a register that is in order
--- there are no such lines, and this is what is held (`held-in`)
+-- there are no such lines (`lines-in`), and this is what is held (`held-in`)
 abbrev pub partIn : ℕ → List ℕ → ℕ → ℕ → ℕ → ℕ → ℤ
 partIn y ls user point d i = cond (inThermalYear y (lineAt ls i .first)) (partAt y ls user point d i) (pos 0)
 
@@ -74,10 +81,14 @@ shortIn y n ls h d = ltZ (heldIn y n ls (h .user) (h .point) d) (pos (h .amount)
 unfoldable pub heldAnswer : ℕ → ℕ → List ℕ → Holding → Held
 heldAnswer y n ls h = firstShort (shortIn y n ls h) (spanDays (h .first) (h .last)) (h .first)
 
--- whether there is none
+-- whether there is none, and the number of question 10 (`held-number`)
 abbrev pub isThroughout : Held → Bool
 isThroughout Throughout = true
 isThroughout (ShortOn d) = false
+
+abbrev pub numberOfHeld : Held → ℕ
+numberOfHeld Throughout = 0
+numberOfHeld (ShortOn d) = 10
 
 -- the day as a number for a host; where there is none it is 65,536, which no gas-day has
 abbrev pub shortDay : Held → ℕ

@@ -9,7 +9,7 @@ use calendar::Span;
 use register::Line;
 
 // The first and the last day of a thermal year, as numbers of a ledger line.
-pub struct Bounds {
+pub(crate) struct Bounds {
     pub first: u32,
     pub last: u32,
 }

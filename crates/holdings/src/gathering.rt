@@ -13,14 +13,14 @@ use crate::holdings::Holding;
 use register::Line;
 
 // What a line adds, on each day from first to last.
-pub struct GatheredLine {
+pub(crate) struct GatheredLine {
     pub first: u32,
     pub last: u32,
     pub amount: i32,
 }
 
 // The lines gathered, and how many they are.
-pub struct Gathered {
+pub(crate) struct Gathered {
     pub lines: [GatheredLine; 2048],
     pub count: usize,
 }

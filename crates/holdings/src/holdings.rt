@@ -26,7 +26,8 @@ pub enum Held {
     ShortOn(u16),
 }
 
-// The first gas-day from first to last on which the lines gathered sum to less than the amount.
+// The first gas-day from first to last on which the lines gathered sum to less than the amount: a loop over the days around a loop
+// over the ledger lines, left by label with the short day. The test stands inside the inner loop, so that one `break` leaves both.
 fn short_day(gathered: Gathered, first: u16, last: u16, amount: u32) -> Held
     requires { ⌜ (gathered .count ≤ lineCount) × (length (gathered .lines) ≡ lineCount) ⌝ }
     ensures { λ v. ⌜ v ≡ firstShort (gatheredShort gathered amount) (spanDays first last) first ⌝ }

@@ -20,7 +20,8 @@ pub extern "C" fn ylgrandi_in_order(r: Register, free: &[u32], ledger: &[u32]) -
     register::in_order(r, free, ledger)
 }
 
-// Question 10: the first gas-day of the span on which the user holds less than the amount; 65,536 where there is none.
+// Question 10: the first gas-day of the span on which the user holds less than the amount; 65,536 where there is none. In a register
+// that is not in order a line counts only where it begins in the year.
 #[no_mangle]
 pub extern "C" fn ylgrandi_first_short_day(year: u16, lines: u16, ledger: &[u32], h: Holding) -> u32
     ensures { λ v. ⌜ v ≡ shortDay (heldAnswer year lines (now (ledger .entry)) h) ⌝ }

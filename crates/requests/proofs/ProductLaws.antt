@@ -1,25 +1,22 @@
 -- Laws of products: their spans and their deadlines, as the calendar answers them.
 -- Assumes nothing.
 use mathlib.Core.Path.{_≡_, refl, sym, ap, _∙_}
-use mathlib.Core.Bool.{Bool, true, false, and-true, and-false}
-use Prim.Native.Nat.{ℕ, _+_, _≤_, _<_}
+use mathlib.Core.Bool.{Bool, true, false, and-true}
+use Prim.Native.Nat.{ℕ}
 use native.Mathlib.Omega.{arith}
-use lib.Dec.{leb}
-use borrow.Author.Tests.{le-leb, lt-leb}
+use borrow.Author.Tests.{le-leb}
 use Rattle.calendar.specs.declared.thermal_years.Span.the-variants.{OutsideCalendar}
-use Rattle.calendar.specs.Days.{between, dayNumber}
-use Rattle.calendar.specs.ThermalYears.{isThermalYear, thermalFirst, thermalLast, isThermalMonth, calendarYear, calendarMonth, thermalMonthFirst, thermalMonthLast}
-use Rattle.calendar.specs.Deadlines.{nextFirst}
+use Rattle.calendar.specs.Days.{between}
+use Rattle.calendar.specs.ThermalYears.{isThermalYear, isThermalMonth, calendarYear, calendarMonth, thermalMonthFirst, thermalMonthLast}
 use Rattle.calendar.specs.Answers.{monthAnswer, ownAnswer, precedingAnswer}
 use Rattle.calendar.proofs.Ranges.{both, month-of-test}
-use Rattle.calendar.proofs.DateLaws.{month-least, month-next}
+use Rattle.calendar.proofs.DateLaws.{month-least}
 use Rattle.calendar.proofs.ThermalYearLaws.{month-days, thermal-month-from, thermal-month-to}
-use Rattle.calendar.proofs.DeadlineLaws.{next-of, next-beyond}
 use Rattle.conferral.specs.Spans.{arrives, spanFits, annualAnswer, isTimely}
 use Rattle.conferral.proofs.SpanLaws.{span-fits, arrival-year, timely-own, timely-preceding}
 use Rattle.requests.specs.declared.products.Product.{Product}
 use Rattle.requests.specs.declared.products.Product.the-variants.{Annual, Month, Day}
-use Rattle.requests.specs.Products.{firstOf, monthOk, isInYear, deadline, isInTime}
+use Rattle.requests.specs.Products.{monthOk, deadline, isInTime}
 use Rattle.requests.specs.Steps.{daySpan, spanAnswer}
 
 month-in : (y a m : ℕ) → arrives y a ≡ true → between 1 12 m ≡ true → isThermalMonth y m ≡ true
@@ -59,14 +56,3 @@ month-span y a m k e h o =
 pub day-span : (y a d : ℕ) (k : Product) → k ≡ Day d → arrives y a ≡ true → daySpan y d ≡ spanAnswer y a k
 unfolding spanAnswer
 day-span y a d k e h = rw (e, h, arrival-year y a h, le-leb d d (omega arith), and-true)
-
--- in September Y an annual request begins with the year, and a September Y+1 arrival leaves no day
-pub september-first : (y a : ℕ) → 2000 ≤ y → dayNumber y 9 1 ≤ a → a < thermalFirst y → firstOf y a Annual ≡ thermalFirst y
-september-first y a h from to =
-    let e = next-of y 9 a h (record { from = omega arith; to = omega arith }) (omega (arith, from)) (omega (arith, to, month-next y 9 (omega arith))) in
-    omega (arith, e)
-
-pub september-none : (y a : ℕ) → 2000 ≤ y → dayNumber (y + 1) 9 1 ≤ a → isInYear y a Annual ≡ false
-september-none y a h from =
-    let past : leb (nextFirst a) (thermalLast y) ≡ false = lt-leb (nextFirst a) (thermalLast y) (next-beyond y a h from) in
-    rw (past, and-false, and-false)

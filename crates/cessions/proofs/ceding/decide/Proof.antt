@@ -4,8 +4,9 @@ use borrow.Author.Tests.{not-true, not-false}
 use Rattle.parts.specs.Registers.{State, state}
 use Rattle.parts.specs.Points.{isOpen}
 use Rattle.register.specs.Order.{inOrder}
+use Rattle.holdings.proofs.HeldLaws.{lines-in}
 use Rattle.cessions.specs.CedeCapacity.{cessionFields, pointOf, spanQuestions, cessionQuestions}
-use Rattle.cessions.proofs.CessionLaws.{lines-in, fields, decides-too}
+use Rattle.cessions.proofs.CessionLaws.{fields, decides-too}
 use borrow.Author.Needs.{needs}
 use Rattle.cessions.proofs.ceding.decide.Statement.{statement}
 use Rattle.cessions.proofs.ceding.decide.Tie as tie

@@ -1,8 +1,9 @@
-use mathlib.Core.Path.{sym, _∙_}
+use mathlib.Core.Path.{_≡_, refl, sym, ap, _∙_}
 use borrow.Author.Tests.{not-true, not-false}
 use Rattle.calendar.proofs.Ranges.{and-left}
-use Rattle.conferral.specs.Spans.{spanFits}
-use Rattle.cessions.specs.CedeCapacity.{spanFirst, spanLast, heldQuestions, spanQuestions}
+use Rattle.conferral.specs.Spans.{spanFits, isTimely}
+use Rattle.conferral.proofs.SpanLaws.{timely-own}
+use Rattle.cessions.specs.CedeCapacity.{spanFirst, spanLast, deadline, isInTime, heldQuestions, spanQuestions}
 use Rattle.cessions.specs.Steps.{Spanned}
 use Rattle.cessions.proofs.CessionLaws.{spanned, no-span, decides-too}
 use borrow.Author.Needs.{needs}
@@ -21,17 +22,26 @@ span-of-requires c κs = search needs
 enum-known-span : tie.Need-enum-known-span
 enum-known-span c = search needs
 
-is-in-time-requires : tie.Need-is-in-time-requires
-is-in-time-requires c κs =
-    let a = c .before .before .before .before .before .args in
-    and-left _ (spanFits (a .r .year) (spanFirst (a .c)) (spanLast (a .r))) (span c .fits)
+in-time-own-month-requires : tie.Need-in-time-own-month-requires
+in-time-own-month-requires c κs = search needs
+
+is-timely-requires : tie.Need-is-timely-requires
+is-timely-requires c κs = search needs
+
+-- question 9, as it is answered
+answers-time : (c : tie.After-is-timely) → c .is-timely .result ≡ isInTime (c .before .before .before .before .before .before .before .args .c)
+answers-time c =
+    let t = c .before .before in
+    let a = t .before .before .before .before .before .args in
+    let arrived = and-left _ (spanFits (a .r .year) (spanFirst (a .c)) (spanLast (a .r))) (span t .fits) in
+    c .is-timely .ensures ∙ ap isTimely (c .before .in-time-own-month .ensures) ∙ timely-own (a .r .year) (a .c .arrival) deadline arrived refl
 
 returns : tie.Need-returns
-returns c = rw (span (c .before .before) .fits, sym (c .before .is-in-time .ensures) ∙ not-true _ (c .if1 .taken))
+returns c = rw (span (c .before .before .before) .fits, sym (answers-time (c .before)) ∙ not-true _ (c .if1 .taken))
 
 decide-held-requires : tie.Need-decide-held-requires
 decide-held-requires c κs =
-    let t = c .before .before in
+    let t = c .before .before .before in
     let st = t .before .before .before .before .before in
     (st .pre .0, (span t, st .pre .1))
 
@@ -41,10 +51,10 @@ enum-told c = search needs
 returns-2 : tie.Need-returns-2
 returns-2 c =
     let e = c .before in
-    let t = e .before .before in
+    let t = e .before .before .before in
     let a = t .before .before .before .before .before .args in
     decides-too (heldQuestions (a .r) (a .ledger .now) (a .c)) (spanQuestions (a .r) (a .ledger .now) (a .c)) (a .r) (a .c) (c .decide-held .result)
-    (rw (span t .fits, sym (e .before .is-in-time .ensures) ∙ not-false _ (e .if1 .left)))
+    (rw (span t .fits, sym (answers-time (e .before)) ∙ not-false _ (e .if1 .left)))
     (c .decide-held .ensures)
 
 returns-3 : tie.Need-returns-3
@@ -58,7 +68,8 @@ decide-span-spec =
     (tie.spec
     span-of-requires
     enum-known-span
-    is-in-time-requires
+    in-time-own-month-requires
+    is-timely-requires
     returns
     decide-held-requires
     enum-told
