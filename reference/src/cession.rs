@@ -2,10 +2,12 @@
 //!
 //! The rules are those of document 01: "The changing calls", and the questions
 //! 1, 2, 3, 5, 8, 9, 10, 1 once more, 11 and 13 of "Questions put to a call".
-//! What that paper leaves open:
+//! Question 10 can also be put by itself, with its day for an answer. What that
+//! paper leaves open:
 //!
 //! - an arrival outside the calendar is refused by question 8;
-//! - the two lines of a cession are written after the last one used.
+//! - the two lines of a cession are written after the last one used;
+//! - nobody holds anything on a day outside the year.
 
 use crate::calendar::{own_deadline, thermal_year, Date};
 use crate::register::{
@@ -67,6 +69,17 @@ impl Cession {
             amount,
         })
     }
+}
+
+/// An amount that a user is to hold at a point, on each day from `first` to
+/// `last`. There is nothing to hold where the first is after the last.
+#[derive(Debug, Clone, Copy, PartialEq, Eq)]
+pub struct Holding {
+    pub user: u8,
+    pub point: u8,
+    pub first: u16,
+    pub last: u16,
+    pub amount: u32,
 }
 
 impl Line {
@@ -140,5 +153,16 @@ impl Register {
             .filter(|line| line.counts_on(day))
             .map(|line| i64::from(line.amount))
             .sum()
+    }
+
+    /// The first day of a span on which a user holds less than an amount. The
+    /// register is in order.
+    pub fn first_short_day(&self, ledger: &[u32], holding: Holding) -> Option<u16> {
+        let (from, to) = thermal_year(self.year)?;
+        let held_on = |day| match (from..=to).contains(&day) {
+            true => self.held(ledger, holding.user, holding.point, day),
+            false => 0,
+        };
+        (holding.first..=holding.last).find(|&day| held_on(day.into()) < holding.amount.into())
     }
 }

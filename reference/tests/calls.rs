@@ -1,9 +1,9 @@
 //! The script of the program `calls`: the steps written by hand have the answers
 //! that stand beside them, and the random sequences are of use.
 
-use std::collections::BTreeSet;
+use std::collections::{BTreeMap, BTreeSet};
 
-use reference::cession::Cession;
+use reference::cession::{Cession, Holding};
 use reference::request::{Product, Request};
 use reference::script::{by_hand, lines, random, steps, Answer, Host, Step};
 
@@ -21,8 +21,8 @@ fn the_steps_by_hand_are_answered_as_written() {
     }
 }
 
-/// A refused call alters nothing, and a report never does. A fresh register that
-/// is refused has the year 0.
+/// A refused call alters nothing, and a report or a holding never does. A fresh
+/// register that is refused has the year 0.
 #[test]
 fn a_refused_call_leaves_everything() {
     let mut host = Host::default();
@@ -31,7 +31,7 @@ fn a_refused_call_leaves_everything() {
         let is_refused = host.run(step).number().is_some_and(|number| number > 0);
         match step {
             Step::Fresh { .. } => {}
-            Step::Report { .. } => assert!(host == before, "{step}"),
+            Step::Held(_) | Step::Report { .. } => assert!(host == before, "{step}"),
             _ if is_refused => assert!(host == before, "{step}"),
             _ => {}
         }
@@ -96,6 +96,8 @@ fn the_sequences_have_every_answer_often() {
         (b'C', 10, 100),
         (b'C', 11, 100),
         (b'C', 13, 10),
+        (b'H', 0, 150),
+        (b'H', 10, 150),
         (b'Q', 0, 300),
         (b'Q', 1, 20),
         (b'Q', 2, 20),
@@ -182,6 +184,54 @@ fn the_sequences_cede_on_what_was_taken_over() {
     assert!(found >= 50, "{found} times");
 }
 
+/// What a user holds is asked of registers in order only; of others document 01
+/// does not say it.
+#[test]
+fn holdings_are_of_registers_in_order() {
+    let mut host = Host::default();
+    for step in steps() {
+        if matches!(step, Step::Held(_)) {
+            assert!(host.is_in_order(), "{step}");
+        }
+        host.run(step);
+    }
+}
+
+/// Where a holding is short: on the only day of its span, on the first of several,
+/// on the last, between them or nowhere. Each is frequent.
+#[test]
+fn the_sequences_have_every_short_day_often() {
+    let mut found = BTreeMap::new();
+    for (step, answer) in random_calls() {
+        let (Step::Held(holding), Answer::Amount(_, short)) = (step, answer) else {
+            continue;
+        };
+        let Holding { first, last, .. } = holding;
+        let where_short = match answer.number() {
+            Some(0) if first > last => "no day at all",
+            Some(0) if first == last => "one day, held",
+            Some(0) => "throughout",
+            _ if first == last => "one day, short",
+            _ if short == u32::from(first) => "the first day",
+            _ if short == u32::from(last) => "the last day",
+            _ => "a day between",
+        };
+        *found.entry(where_short).or_insert(0) += 1;
+    }
+    for (where_short, at_least) in [
+        ("no day at all", 40),
+        ("one day, held", 20),
+        ("throughout", 80),
+        ("one day, short", 10),
+        ("the first day", 100),
+        ("the last day", 20),
+        ("a day between", 30),
+    ] {
+        let times = found.get(where_short).copied().unwrap_or(0);
+        assert!(times >= at_least, "{where_short}: {times} times");
+    }
+}
+
 fn words_of(step: Step) -> Vec<u32> {
     let record = step.record();
     let words = record.chunks_exact(4);
@@ -227,6 +277,22 @@ fn a_cession_is_recorded_and_printed() {
     });
     assert_eq!(words_of(step), [67, 31, 0, 63, 0, 8_696, 600, 1, 5]);
     assert_eq!(step.to_string(), "cession 5 63 31 8696 4294967896");
+}
+
+/// The first day has the word of the period, the last one that of the arrival.
+#[test]
+fn a_holding_is_recorded_and_printed() {
+    let step = Step::Held(Holding {
+        user: 5,
+        point: 31,
+        first: 8_674,
+        last: 9_039,
+        amount: u32::MAX,
+    });
+    let words = [72, 31, 0, 8_674, 0, 9_039, u32::MAX, 0, 5];
+    assert_eq!(words_of(step), words);
+    assert_eq!(step.to_string(), "held 5 31 8674 9039 4294967295");
+    assert_eq!(Answer::Amount(10, 8_705).to_string(), " -> 10 8705");
 }
 
 #[test]

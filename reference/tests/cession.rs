@@ -7,7 +7,7 @@ mod books;
 
 use books::Books;
 use reference::calendar::thermal_month;
-use reference::cession::Cession;
+use reference::cession::{Cession, Holding};
 use reference::register::*;
 use reference::request::{Product, Request};
 
@@ -80,6 +80,18 @@ impl Books {
 
     fn held(&self, user: u8, day: u32) -> i64 {
         self.register.held(&self.ledger, user, 0, day)
+    }
+
+    /// The first day on which user 5 holds less than an amount at point 0.
+    fn short_day(&self, first: u16, last: u16, amount: u32) -> Option<u16> {
+        let holding = Holding {
+            user: 5,
+            point: 0,
+            first,
+            last,
+            amount,
+        };
+        self.register.first_short_day(&self.ledger, holding)
     }
 }
 
@@ -240,6 +252,40 @@ fn a_month_line_counts_in_its_month() {
                 _ => books.assert_refused(ceded, Refusal::NotHeld),
             }
         }
+    }
+}
+
+/// One day is short by one, whichever it is, and it is named if it is asked for.
+#[test]
+fn the_first_day_with_too_little_is_named() {
+    for day in 8_674..=9_039 {
+        let mut books = books(1, 100);
+        books.enter([5, 0, 3, day.into(), u32::MAX]);
+        assert_eq!(books.short_day(8_674, 9_039, 100), Some(day));
+        assert_eq!(books.short_day(8_674, day, 100), Some(day));
+        assert_eq!(books.short_day(day, 9_039, 100), Some(day));
+        assert_eq!(books.short_day(8_674, day - 1, 100), None);
+        assert_eq!(books.short_day(day + 1, 9_039, 100), None);
+        assert_eq!(books.short_day(8_674, 9_039, 99), None);
+        assert_eq!(books.short_day(8_674, 9_039, 101), Some(8_674));
+        assert_eq!(books.short_day(day, day - 1, 101), None);
+    }
+}
+
+/// A month line leaves the first of the next month short, and no line counts
+/// outside the year.
+#[test]
+fn the_day_after_a_line_is_named() {
+    for month in 1..=12 {
+        let mut books = books(1, 100);
+        let first = FIRSTS[usize::from(month)];
+        let next = FIRSTS[usize::from(month) + 1];
+        books.grant(Product::Month(month), 7);
+        assert_eq!(books.short_day(first, 9_050, 107), Some(next));
+        assert_eq!(books.short_day(first, next - 1, 107), None);
+        assert_eq!(books.short_day(8_674, 9_050, 1), Some(9_040));
+        assert_eq!(books.short_day(8_673, 9_039, 1), Some(8_673));
+        assert_eq!(books.short_day(0, u16::MAX, 0), None);
     }
 }
 

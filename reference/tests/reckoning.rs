@@ -7,7 +7,7 @@
 use std::collections::BTreeMap;
 
 use reference::calendar::{thermal_year, working_days, Date};
-use reference::cession::Cession;
+use reference::cession::{Cession, Holding};
 use reference::request::{Product, Request};
 use reference::script::{random, Answer, Field, Host, Step};
 
@@ -195,14 +195,24 @@ impl Reckoning {
         }
     }
 
-    /// Asserts that a request, a cession or a report is answered as reckoned. There
-    /// is no register before the first that is accepted, and of the reports only
+    /// The number and the day that a holding is answered with. On a day outside the
+    /// year there are no entries.
+    fn answer_to_holding(&self, holding: Holding) -> (u8, u64) {
+        let Holding { user, point, .. } = holding;
+        let mut days = u32::from(holding.first)..=holding.last.into();
+        let short = days.find(|&day| self.held(user, point, day) < holding.amount.into());
+        short.map_or((0, 0), |day| (10, day.into()))
+    }
+
+    /// Asserts that a request, a cession, a holding or a report is answered as
+    /// reckoned. There is no register before the first that is accepted, and of the reports only
     /// those with the number 0 are reckoned.
     fn assert_answer(&self, step: Step, answer: Answer) {
         let expected = match step {
             Step::Request(_) | Step::Cession(_) if self.year == 0 => (1, 0),
             Step::Request(request) => self.answer(request),
             Step::Cession(cession) => self.answer_to_cession(cession),
+            Step::Held(holding) => self.answer_to_holding(holding),
             Step::Report { point, day } if answer.number() == Some(0) => {
                 (0, self.free(point, day.into()))
             }
@@ -242,7 +252,7 @@ impl Reckoning {
                 self.count_side(cession, cession.giver, -(amount as i64));
                 self.count_side(cession, cession.receiver, amount as i64);
             }
-            Step::Report { .. } => {}
+            Step::Held(_) | Step::Report { .. } => {}
             Step::Set(..) | Step::Repeat { .. } => panic!("{step} is no call"),
         }
     }
@@ -317,7 +327,7 @@ fn is_call(step: &Step) -> bool {
 #[test]
 fn the_sequences_of_calls_are_answered_as_reckoned() {
     let mut host = Host::default();
-    let (mut requests, mut cessions) = (0, 0);
+    let (mut requests, mut cessions, mut holdings) = (0, 0, 0);
     for sequence in random::sequences(host.clone()) {
         let has_calls_only = sequence.iter().all(is_call);
         let mut reckoning = Reckoning::default();
@@ -329,6 +339,7 @@ fn the_sequences_of_calls_are_answered_as_reckoned() {
             reckoning.assert_answer(step, answer);
             requests += usize::from(matches!(step, Step::Request(_)));
             cessions += usize::from(matches!(step, Step::Cession(_)));
+            holdings += usize::from(matches!(step, Step::Held(_)));
             match answer {
                 Answer::Number(0) => reckoning.count(step, 0),
                 Answer::Amount(0, amount) => reckoning.count(step, amount.into()),
@@ -343,4 +354,5 @@ fn the_sequences_of_calls_are_answered_as_reckoned() {
     }
     assert!(requests >= 1_000, "{requests} requests");
     assert!(cessions >= 600, "{cessions} cessions");
+    assert!(holdings >= 200, "{holdings} holdings");
 }

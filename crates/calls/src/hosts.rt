@@ -7,6 +7,8 @@ use crate::steps::is_call;
 use crate::steps::low;
 use cessions::Ceded;
 use cessions::Cession;
+use holdings::Held;
+use holdings::Holding;
 use register::Account;
 use register::Filed;
 use register::Point;
@@ -104,6 +106,14 @@ fn after_cession(h: Host, c: Ceded) -> Host {
     )
 }
 
+// Nothing is altered. Question 10 gives the number, and the short day stands where another answer has its amount.
+fn after_holding(h: Host, answer: Held) -> Host {
+    match answer {
+        Held::Throughout => answered(h, h.register, 0, 0),
+        Held::ShortOn(day) => answered(h, h.register, 10, day as u32),
+    }
+}
+
 // What is requested. The script has no kind but 1, 2 and 3.
 fn product_of(s: Step) -> Product {
     let kind = s.kind;
@@ -135,6 +145,32 @@ fn cession_of(s: Step) -> Cession {
     }
 }
 
+// A holding has two days and no arrival: the word of the arrival is the last day's.
+fn holding_of(s: Step) -> Holding {
+    Holding {
+        user: byte(s.user),
+        point: byte(s.index),
+        first: half(s.period),
+        last: half(s.arrival),
+        amount: low(s.value),
+    }
+}
+
+// A call that alters nothing, so that it is lent both lists to read only.
+fn run_reading(h: Host, s: Step, free: &[u32], ledger: &[u32]) -> Host {
+    let r = h.register;
+    if s.letter == b'H' {
+        return after_holding(
+            h,
+            holdings::first_short_day(r.year, r.lines, ledger, holding_of(s)),
+        );
+    }
+    after_report(
+        h,
+        register::report_free(r, free, ledger, byte(s.index), half(s.period)),
+    )
+}
+
 // A call, with what it is lent.
 fn run_call(h: Host, s: Step, free: &mut [u32], ledger: &mut [u32]) -> Host {
     let r = h.register;
@@ -163,10 +199,7 @@ fn run_call(h: Host, s: Step, free: &mut [u32], ledger: &mut [u32]) -> Host {
             requests::request_capacity(r, free, ledger, request_of(s)),
         ),
         b'C' => after_cession(h, cessions::cede_capacity(r, free, ledger, cession_of(s))),
-        _ => after_report(
-            h,
-            register::report_free(r, &free[..], &ledger[..], byte(s.index), half(s.period)),
-        ),
+        _ => run_reading(h, s, &free[..], &ledger[..]),
     }
 }
 

@@ -56,6 +56,15 @@ fn print_cession(s: Step) {
     print_field(s.value);
 }
 
+fn print_holding(s: Step) {
+    print_text(b" held");
+    print_field(s.user as u64);
+    print_field(s.index as u64);
+    print_field(s.period as u64);
+    print_field(s.arrival as u64);
+    print_field(s.value);
+}
+
 fn print_call(s: Step) {
     let letter = s.letter;
     match letter {
@@ -75,6 +84,7 @@ fn print_call(s: Step) {
         }
         b'R' => print_request(s),
         b'C' => print_cession(s),
+        b'H' => print_holding(s),
         _ => {
             print_text(b" report");
             print_field(s.index as u64);
@@ -129,12 +139,13 @@ fn print_write(s: Step) {
     }
 }
 
-// Whether the answer of a call has an amount beside its number.
+// Whether the answer of a call has an amount, or a day, beside its number.
 fn has_amount(letter: u8) -> bool {
     match letter {
         b'R' => true,
         b'C' => true,
         b'Q' => true,
+        b'H' => true,
         _ => false,
     }
 }

@@ -3,13 +3,17 @@
 //
 // A step is a call, or writes one number of the register, of the lists that are lent or of their lengths, or copies a line: what a
 // faulty host could do. Its record has nine words of 32 bits, little-endian: letter; point, the user of a guarantee or the place in
-// a list; kind, of a point or of what is requested (1 annual, 2 month, 3 day); year, gas-day or month of the year, or the receiver
-// of a cession; rate; the arrival of a request or a cession; total, guarantee, amount, number written or count of lines, low half
-// first; and the user of a request or the giver of a cession.
+// a list; kind, of a point or of what is requested (1 annual, 2 month, 3 day); year, gas-day, month of the year or first day of a
+// holding, or the receiver of a cession; rate; the arrival of a request or a cession, or the last day of a holding; total,
+// guarantee, amount, number written or count of lines, low half first; and the user of a request or a holding, or the giver of a
+// cession.
+//
+// The letter H asks question 10 by itself: does a user hold an amount on every day of a span? Of the calls, a cession alone asks it
+// and does not tell the day. The script asks it only of registers in order; of others the two implementations may differ.
 //
 // A line has the position of the step from 1, the step, the number of its answer after `->`, for a report the free amount, for a
-// request the amount granted and for a cession the amount ceded, and a digest of the register and of both lists, the numbers that
-// are never lent included.
+// request the amount granted, for a cession the amount ceded and for a holding the first day with too little (0 where there is
+// none), and a digest of the register and of both lists, the numbers that are never lent included.
 mod digests;
 mod hosts;
 mod lines;

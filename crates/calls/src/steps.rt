@@ -41,7 +41,7 @@ pub fn step_of(r: &[u8; 36]) -> Step {
     }
 }
 
-// Whether a step is a call; the others write a number.
+// Whether a step is a call, which has an answer; the others write numbers.
 pub fn is_call(letter: u8) -> bool {
     match letter {
         b'F' => true,
@@ -51,6 +51,7 @@ pub fn is_call(letter: u8) -> bool {
         b'R' => true,
         b'C' => true,
         b'Q' => true,
+        b'H' => true,
         _ => false,
     }
 }

@@ -1,16 +1,17 @@
-//! Steps written by hand. The number and the amount of each answer stand here as
-//! document 01 gives them; none is computed. Of the fields of the steps one is:
-//! the arrival of the request and the cession in `damaged`, the day before a
-//! gas-day.
+//! Steps written by hand. The number and the amount or day of each answer stand
+//! here as document 01 gives them; none is computed. Of the fields of the steps
+//! one is: the arrival of the request and the cession in `damaged`, the day before
+//! a gas-day.
 //!
 //! Days: thermal year 2023 runs from day 8,674 to 9,039 and has 366 days, 2022
 //! from 8,309 to 8,673 and 2024 from 9,040 to 9,404, each with 365.
 
 mod cessions;
+mod holdings;
 mod requests;
 
 use super::{Answer, Field, Step};
-use crate::cession::Cession;
+use crate::cession::{Cession, Holding};
 use crate::request::{Product, Request};
 use Field::*;
 
@@ -91,6 +92,15 @@ impl Cases {
         self.push(why, Step::Cession(cession), Answer::Amount(number, 0));
     }
 
+    fn held(&mut self, why: &str, holding: Holding) {
+        self.push(why, Step::Held(holding), Answer::Amount(0, 0));
+    }
+
+    /// An amount that is not held, and the first day with too little.
+    fn short(&mut self, why: &str, holding: Holding, day: u16) {
+        self.push(why, Step::Held(holding), Answer::Amount(10, day.into()));
+    }
+
     fn set(&mut self, why: &str, field: Field, value: u64) {
         self.push(why, Step::Set(field, value), Answer::None);
     }
@@ -165,6 +175,29 @@ fn cession(giver: u8, receiver: u8, point: u8, arrival: u16, amount: u64) -> Ces
     }
 }
 
+/// An amount that is to be held, in the order in which it is printed.
+fn holding(user: u8, point: u8, first: u16, last: u16, amount: u32) -> Holding {
+    Holding {
+        user,
+        point,
+        first,
+        last,
+        amount,
+    }
+}
+
+/// So many lines of the ledger are the first one.
+fn repeat(c: &mut Cases, why: &str, lines: u16) {
+    c.push(why, Step::Repeat { lines }, Answer::None);
+}
+
+/// Numbers written one after the other.
+fn write(c: &mut Cases, why: &str, numbers: &[(Field, u64)]) {
+    for &(field, number) in numbers {
+        c.set(why, field, number);
+    }
+}
+
 /// The steps in their order. The register is one of 2023, unless a part says
 /// otherwise.
 pub fn cases() -> Vec<Case> {
@@ -185,6 +218,7 @@ pub fn cases() -> Vec<Case> {
     first_and_last_year(&mut cases);
     requests::add_to(&mut cases);
     cessions::add_to(&mut cases);
+    holdings::add_to(&mut cases);
     cases.cases
 }
 

@@ -2,37 +2,42 @@
 //!
 //! A step is a call, or writes one number of the register, of the lists that
 //! are lent or of their lengths, or copies a line: what a faulty host could do.
-//! The script has two parts: steps written by hand, with the answers that
-//! document 01 gives them, and random sequences.
+//! One more is question 10 by itself, put to registers in order only: does a
+//! user hold an amount on every day of a span? The script has two parts: steps
+//! written by hand, with the answers that document 01 gives them, and random
+//! sequences.
 //!
 //! In the script a step is a record of nine words of 32 bits, little-endian:
 //!
 //! - 0: the letter of the step;
 //! - 1: point, the user of a guarantee or the place in a list;
 //! - 2: kind, of a point or of what is requested (1 annual, 2 month, 3 day);
-//! - 3: year, gas-day or month of the year, or the receiver of a cession;
+//! - 3: year, gas-day, month of the year or first day of a holding, or the
+//!   receiver of a cession;
 //! - 4: rate;
-//! - 5: the arrival of a request or a cession;
+//! - 5: the arrival of a request or a cession, or the last day of a holding;
 //! - 6, 7: total, guarantee, amount, number written or count of lines, low half
 //!   first;
-//! - 8: the user of a request, the giver of a cession.
+//! - 8: the user of a request or a holding, the giver of a cession.
 //!
 //! A cession names two users and has no period, so that the word of the period
-//! is the receiver's.
+//! is the receiver's. A holding has two days and no arrival, so that the word of
+//! the arrival is the last day's.
 //!
 //! A word that a step does not use is 0.
 //!
 //! A line of the output has the position of the step from 1, the step, the
 //! number of its answer after `->`, for a report the free amount, for a request
-//! the amount granted and for a cession the amount ceded, and a digest of the
-//! register and of both lists.
+//! the amount granted, for a cession the amount ceded and for a holding the first
+//! day with too little (0 where there is none), and a digest of the register and
+//! of both lists.
 
 pub mod by_hand;
 pub mod random;
 
 use std::fmt;
 
-use crate::cession::Cession;
+use crate::cession::{Cession, Holding};
 use crate::register::{Lent, Refusal, Register, LEDGER_LENGTH, NUMBERS_IN_LINE, TABLE_LENGTH};
 use crate::request::{Product, Request};
 
@@ -110,6 +115,8 @@ pub enum Step {
     },
     Request(Request),
     Cession(Cession),
+    /// Question 10, put by itself to a register in order.
+    Held(Holding),
     Report {
         point: u8,
         day: u16,
@@ -165,6 +172,18 @@ impl Words {
             arrival: cession.arrival,
             value: cession.amount,
             user: cession.giver,
+            ..Words::default()
+        }
+    }
+
+    fn of_holding(holding: Holding) -> Words {
+        Words {
+            letter: b'H',
+            index: holding.point.into(),
+            period: holding.first,
+            arrival: holding.last,
+            value: holding.amount.into(),
+            user: holding.user,
             ..Words::default()
         }
     }
@@ -228,6 +247,7 @@ impl Step {
             },
             Step::Request(request) => Words::of_request(request),
             Step::Cession(cession) => Words::of_cession(cession),
+            Step::Held(holding) => Words::of_holding(holding),
             Step::Report { point, day } => Words {
                 letter: b'Q',
                 index: point.into(),
@@ -266,6 +286,7 @@ impl fmt::Display for Step {
             Step::Turn { year } => write!(f, "turn {year}"),
             Step::Request(request) => write_request(f, request),
             Step::Cession(cession) => write_cession(f, cession),
+            Step::Held(holding) => write_holding(f, holding),
             Step::Report { point, day } => write!(f, "report {point} {day}"),
             Step::Set(field, value) => match field.parts() {
                 (_, name, Some(index)) => write!(f, "set {name} {index} {value}"),
@@ -297,6 +318,17 @@ fn write_cession(f: &mut fmt::Formatter<'_>, cession: Cession) -> fmt::Result {
     write!(f, "cession {giver} {receiver} {point} {arrival} {amount}")
 }
 
+fn write_holding(f: &mut fmt::Formatter<'_>, holding: Holding) -> fmt::Result {
+    let Holding {
+        user,
+        point,
+        first,
+        last,
+        amount,
+    } = holding;
+    write!(f, "held {user} {point} {first} {last} {amount}")
+}
+
 /// What a step answers; a step that writes a number answers nothing.
 #[derive(Debug, Clone, Copy, PartialEq, Eq)]
 pub enum Answer {
@@ -305,7 +337,8 @@ pub enum Answer {
     Number(u8),
     /// The number of a report with the free amount, that of a request with the
     /// amount granted, or that of a cession with the amount ceded. The amount is
-    /// 0 if the call is refused.
+    /// 0 if the call is refused. For a holding, 0 and 0 or 10 and the first day
+    /// with too little.
     Amount(u8, u32),
 }
 
@@ -391,6 +424,7 @@ impl Host {
             Step::Turn { year } => number_of(register.turn_year(&mut lent, year)),
             Step::Request(request) => amount_of(register.request(&mut lent, request)),
             Step::Cession(cession) => amount_of(register.cede(&mut lent, cession)),
+            Step::Held(holding) => short_day_of(register.first_short_day(lent.ledger, holding)),
             Step::Report { point, day } => amount_of(register.report(&lent, point, day)),
             Step::Set(..) | Step::Repeat { .. } => Answer::None,
         }
@@ -482,6 +516,12 @@ fn amount_of(result: Result<u32, Refusal>) -> Answer {
         Ok(amount) => Answer::Amount(0, amount),
         Err(refusal) => Answer::Amount(refusal.number(), 0),
     }
+}
+
+fn short_day_of(day: Option<u16>) -> Answer {
+    day.map_or(Answer::Amount(0, 0), |day| {
+        Answer::Amount(Refusal::NotHeld.number(), day.into())
+    })
 }
 
 /// The whole script.

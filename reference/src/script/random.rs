@@ -3,10 +3,11 @@
 //!
 //! Every other sequence has calls only, with good and bad fields. The others
 //! also have writes: some leave the register in order, some damage it and are
-//! mostly repaired.
+//! mostly repaired. Both kinds ask what users hold.
 
 mod cessions;
 mod damages;
+mod holdings;
 mod requests;
 
 use super::{Answer, Field, Host, Step};
@@ -18,11 +19,11 @@ use crate::request::Span;
 /// are stored. 120 sequences would have fewer than the 400 cessions asked for.
 const SEQUENCES: usize = 130;
 
-/// How many steps a sequence has at least; repairs may follow. About seven of
-/// them make the register, points and users. As many steps in all would do less in
-/// sequences of another length: in those of 30, nine cessions would meet a full
-/// ledger and 280 would be accepted; in those of 120, fewer requests would be
-/// granted, in half as many years.
+/// How many steps a sequence has at least; repairs may follow, and holdings are
+/// put in. About seven of them make the register, points and users. As many
+/// steps in all would do less in sequences of another length: in those of 30,
+/// nine cessions would meet a full ledger and 280 would be accepted; in those
+/// of 120, fewer requests would be granted, in half as many years.
 const STEPS: usize = 60;
 
 const SEED: u64 = 20_231_001;
@@ -81,15 +82,14 @@ struct Sequence {
 pub fn sequences(host: Host) -> Vec<Vec<Step>> {
     let mut sequence = Sequence {
         numbers: Generator(SEED),
-        host,
+        host: host.clone(),
         steps: Vec::new(),
         busy_month: 1,
         granted: None,
         repairs: Vec::new(),
     };
-    (0..SEQUENCES)
-        .map(|index| sequence.next(index % 2 == 1))
-        .collect()
+    let made = (0..SEQUENCES).map(|index| sequence.next(index % 2 == 1));
+    holdings::put_in(host, made.collect())
 }
 
 impl Sequence {

@@ -17,9 +17,8 @@
 //! | August 2024 | 8,979 | 9,009 | 9,001, the 23rd | 30 |
 //! | September 2024 | 9,010 | 9,039 | 9,032, the 23rd | 0 |
 
-use super::{annual, cession, day, month, Cases, Field::*};
+use super::{annual, cession, day, month, repeat, write, Cases, Field::*};
 use crate::cession::Cession;
-use crate::script::{Answer, Field, Step};
 
 /// Adds the cessions. Each part starts from a fresh register.
 pub(super) fn add_to(c: &mut Cases) {
@@ -38,6 +37,7 @@ pub(super) fn add_to(c: &mut Cases) {
     short_on_one_day(c);
     month_lines(c);
     month_lines_inside_the_span(c);
+    after_a_month_line(c);
     leap_day(c);
     day_lines(c);
     lines_of_others(c);
@@ -80,18 +80,6 @@ fn start(c: &mut Cases, rate: u32, held: u32) {
 /// A cession from user 5 to user 6 at point 0.
 fn to_6(arrival: u16, amount: u64) -> Cession {
     cession(5, 6, 0, arrival, amount)
-}
-
-/// So many lines of the ledger are the first one.
-fn repeat(c: &mut Cases, why: &str, lines: u16) {
-    c.push(why, Step::Repeat { lines }, Answer::None);
-}
-
-/// Numbers written one after the other.
-fn write(c: &mut Cases, why: &str, numbers: &[(Field, u64)]) {
-    for &(field, number) in numbers {
-        c.set(why, field, number);
-    }
 }
 
 /// The charge moves between the commitments, the free amounts stay.
@@ -490,6 +478,43 @@ fn month_lines_inside_the_span(c: &mut Cases) {
     c.not_ceded("20 in both", to_6(8969, 21), 10);
     c.ceded("20 in both", to_6(8969, 20), 20);
     c.not_ceded("nothing is left in both", to_6(8969, 1), 10);
+}
+
+/// A month line of minus 1, written by the host, counts to its month's end and no
+/// day longer: 100 are held from the next month on. February has 29 days in 2024,
+/// and 28 in 2023.
+fn after_a_month_line(c: &mut Cases) {
+    let line = [(Ledger(5), 5), (Ledger(6), 0), (Ledger(7), 2)];
+    start(c, 0, 100);
+    write(c, "a month line", &line);
+    write(c, "minus 1", &[(Ledger(9), 4_294_967_295)]);
+    for (why, first, in_it, after_it) in [
+        ("October", 8674, 8665, 8696),
+        ("November", 8705, 8696, 8727),
+        ("December", 8735, 8727, 8761),
+        ("January", 8766, 8761, 8788),
+        ("February", 8797, 8788, 8818),
+        ("March", 8826, 8818, 8847),
+        ("April", 8857, 8847, 8879),
+        ("May", 8887, 8879, 8909),
+        ("June", 8918, 8909, 8941),
+        ("July", 8948, 8941, 8969),
+        ("August", 8979, 8969, 9001),
+    ] {
+        write(c, why, &[(Ledger(8), first), (Lines, 2)]);
+        c.not_ceded("99 in the month", to_6(in_it, 100), 10);
+        c.ceded("100 after it", to_6(after_it, 100), 100);
+    }
+    write(c, "September", &[(Ledger(8), 9010), (Lines, 2)]);
+    c.not_ceded("99 in the last month", to_6(9001, 100), 10);
+    c.ceded("99 in the last month", to_6(9001, 99), 99);
+
+    start_in(c, 2022, 8279, 0, 100);
+    write(c, "a month line", &line);
+    write(c, "minus 1", &[(Ledger(9), 4_294_967_295)]);
+    write(c, "February 2023", &[(Ledger(8), 8432), (Lines, 2)]);
+    c.not_ceded("99 in the month", to_6(8424, 100), 10);
+    c.ceded("100 after 28 days", to_6(8432, 100), 100);
 }
 
 /// A month line of February has 29 days in 2024, and 28 in 2023.
