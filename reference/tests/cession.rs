@@ -149,6 +149,21 @@ fn arrivals_outside_the_calendar_are_outside_the_year() {
     }
 }
 
+/// The cession of 1 with a user as the giver, and with him as the receiver.
+fn naming(user: u8) -> [Cession; 2] {
+    let good = cession(8_689, 1);
+    [
+        Cession {
+            giver: user,
+            ..good
+        },
+        Cession {
+            receiver: user,
+            ..good
+        },
+    ]
+}
+
 #[test]
 fn fields_are_within_limits() {
     let mut books = books(0, 9_999_999);
@@ -157,16 +172,9 @@ fn fields_are_within_limits() {
         books.assert_refused(cession(8_689, amount), Refusal::OutOfLimits);
     }
     for user in 64..=u8::MAX {
-        let giver = Cession {
-            giver: user,
-            ..good
-        };
-        let receiver = Cession {
-            receiver: user,
-            ..good
-        };
-        books.assert_refused(giver, Refusal::OutOfLimits);
-        books.assert_refused(receiver, Refusal::OutOfLimits);
+        for named in naming(user) {
+            books.assert_refused(named, Refusal::OutOfLimits);
+        }
     }
     for point in 32..=u8::MAX {
         books.assert_refused(Cession { point, ..good }, Refusal::OutOfLimits);
@@ -187,16 +195,9 @@ fn both_users_are_on_file_and_the_point_is_open() {
     let mut books = books(1, 100);
     let good = cession(8_689, 1);
     for user in (0..64).filter(|user| ![5, 6, 7].contains(user)) {
-        let giver = Cession {
-            giver: user,
-            ..good
-        };
-        let receiver = Cession {
-            receiver: user,
-            ..good
-        };
-        books.assert_refused(giver, Refusal::NotOnFile);
-        books.assert_refused(receiver, Refusal::NotOnFile);
+        for named in naming(user) {
+            books.assert_refused(named, Refusal::NotOnFile);
+        }
     }
     for point in 1..32 {
         books.assert_refused(Cession { point, ..good }, Refusal::PointClosed);

@@ -166,20 +166,21 @@ fn deadlines(c: &mut Cases) {
 /// Arrivals from 1 September before the year to its last day.
 fn arrivals(c: &mut Cases) {
     start(c, 1, 1000);
-    for (why, arrival) in [
-        ("31 August", 8643),
-        ("22 August", 8634),
-        ("1 August", 8613),
-        ("1 September a year before", 8279),
-        ("day 0", 0),
-        ("the day after the year", 9040),
-        ("the day after that", 9041),
-        ("the last day of the calendar", 36_524),
-        ("the first day after the calendar", 36_525),
-        ("the largest number", 65_535),
-    ] {
-        c.not_ceded(why, to_6(arrival, 1), 8);
-    }
+    each_outside(
+        c,
+        &[
+            ("31 August", 8643),
+            ("22 August", 8634),
+            ("1 August", 8613),
+            ("1 September a year before", 8279),
+            ("day 0", 0),
+            ("the day after the year", 9040),
+            ("the day after that", 9041),
+            ("the last day of the calendar", 36_524),
+            ("the first day after the calendar", 36_525),
+            ("the largest number", 65_535),
+        ],
+    );
     c.place("nothing was ceded", 6, 0, 0);
     c.place("enough again", 6, 1_000_000, 0);
     c.ceded("1 September", to_6(8644, 1), 1);
@@ -868,6 +869,21 @@ fn next_year(c: &mut Cases) {
     c.place("5 x 304 and 5 x 153", 7, 2_285, 0);
 }
 
+/// Cessions of 1 to user 6 on deadlines, each with the day after it, which is late.
+fn each_deadline(c: &mut Cases, days: &[(&str, u16, u16)]) {
+    for &(why, deadline, late) in days {
+        c.not_ceded(why, to_6(late, 1), 9);
+        c.ceded(why, to_6(deadline, 1), 1);
+    }
+}
+
+/// Cessions of 1 to user 6 on arrivals that question 8 does not let pass.
+fn each_outside(c: &mut Cases, arrivals: &[(&str, u16)]) {
+    for &(why, arrival) in arrivals {
+        c.not_ceded(why, to_6(arrival, 1), 8);
+    }
+}
+
 /// 2022 has 365 days, from 8,309 to 8,673. The 16th working day of September 2022
 /// is the 22nd, 8,300, that of December the 23rd, 8,392, that of January 2023 the
 /// 24th, 8,424, that of April, which has 18, the 26th, 8,516, that of August the
@@ -880,27 +896,28 @@ fn ordinary_year(c: &mut Cases) {
     c.not_ceded("31 August", to_6(8278, 1), 8);
     c.ceded("1 September", to_6(8279, 1), 1);
     c.place("enough", 6, 1_000_000, 0);
-    for (why, deadline, late) in [
-        ("22 September, 365 days", 8300, 8301),
-        ("23 December, 273 days", 8392, 8393),
-        ("24 January, 242 days", 8424, 8425),
-        ("26 April, 153 days", 8516, 8517),
-        ("23 August, 30 days", 8635, 8636),
-    ] {
-        c.not_ceded(why, to_6(late, 1), 9);
-        c.ceded(why, to_6(deadline, 1), 1);
-    }
+    each_deadline(
+        c,
+        &[
+            ("22 September, 365 days", 8300, 8301),
+            ("23 December, 273 days", 8392, 8393),
+            ("24 January, 242 days", 8424, 8425),
+            ("26 April, 153 days", 8516, 8517),
+            ("23 August, 30 days", 8635, 8636),
+        ],
+    );
     c.place("1,428 days are charged", 6, 1_427, 6);
     c.place("1,428 days are charged", 6, 1_428, 0);
     c.not_ceded("31 August", to_6(8643, 1), 9);
-    for (why, arrival) in [
-        ("1 September", 8644),
-        ("22 September, in time", 8665),
-        ("30 September", 8673),
-        ("1 October", 8674),
-    ] {
-        c.not_ceded(why, to_6(arrival, 1), 8);
-    }
+    each_outside(
+        c,
+        &[
+            ("1 September", 8644),
+            ("22 September, in time", 8665),
+            ("30 September", 8673),
+            ("1 October", 8674),
+        ],
+    );
 }
 
 /// 2000 runs from 274 to 638; 1 September 2000 is a Friday, 244. The 16th working
@@ -912,27 +929,28 @@ fn first_year(c: &mut Cases) {
     c.not_ceded("day 0", to_6(0, 1), 8);
     c.not_ceded("31 August", to_6(243, 1), 8);
     c.ceded("1 September", to_6(244, 1), 1);
-    for (why, deadline, late) in [
-        ("22 September, 365 days", 265, 266),
-        ("27 December, 273 days", 361, 362),
-        ("23 January, 242 days", 388, 389),
-        ("22 February, 214 days", 418, 419),
-        ("23 August, 30 days", 600, 601),
-    ] {
-        c.not_ceded(why, to_6(late, 1), 9);
-        c.ceded(why, to_6(deadline, 1), 1);
-    }
+    each_deadline(
+        c,
+        &[
+            ("22 September, 365 days", 265, 266),
+            ("27 December, 273 days", 361, 362),
+            ("23 January, 242 days", 388, 389),
+            ("22 February, 214 days", 418, 419),
+            ("23 August, 30 days", 600, 601),
+        ],
+    );
     c.place("1,489 days are charged", 6, 1_488, 6);
     c.place("1,489 days are charged", 6, 1_489, 0);
     c.not_ceded("31 August", to_6(608, 1), 9);
-    for (why, arrival) in [
-        ("1 September", 609),
-        ("24 September, in time", 632),
-        ("30 September", 638),
-        ("1 October", 639),
-    ] {
-        c.not_ceded(why, to_6(arrival, 1), 8);
-    }
+    each_outside(
+        c,
+        &[
+            ("1 September", 609),
+            ("24 September, in time", 632),
+            ("30 September", 638),
+            ("1 October", 639),
+        ],
+    );
 }
 
 /// 2027 has 366 days, from 10,135 to 10,500. The 16th working day of January 2028
@@ -946,14 +964,14 @@ fn later_leap_year(c: &mut Cases) {
     c.place("366 days", 6, 366, 0);
     c.ceded("366 days", to_6(10_105, 1), 1);
     c.place("enough", 6, 1_000_000, 0);
-    for (why, deadline, late) in [
-        ("25 January, 243 days", 10_251, 10_252),
-        ("22 February, 214 days", 10_279, 10_280),
-        ("26 April, 153 days", 10_343, 10_344),
-    ] {
-        c.not_ceded(why, to_6(late, 1), 9);
-        c.ceded(why, to_6(deadline, 1), 1);
-    }
+    each_deadline(
+        c,
+        &[
+            ("25 January, 243 days", 10_251, 10_252),
+            ("22 February, 214 days", 10_279, 10_280),
+            ("26 April, 153 days", 10_343, 10_344),
+        ],
+    );
     c.place("976 days are charged", 6, 975, 6);
     c.place("976 days are charged", 6, 976, 0);
     c.not_ceded("1 September", to_6(10_471, 1), 8);
@@ -968,30 +986,31 @@ fn last_year(c: &mut Cases) {
     start_in(c, 2098, 36_038, 1, 1000);
     c.not_ceded("31 August", to_6(36_037, 1), 8);
     c.ceded("1 September", to_6(36_038, 1), 1);
-    for (why, deadline, late) in [
-        ("22 September, 365 days", 36_059, 36_060),
-        ("26 January, 242 days", 36_185, 36_186),
-        ("24 August, 30 days", 36_395, 36_396),
-    ] {
-        c.not_ceded(why, to_6(late, 1), 9);
-        c.ceded(why, to_6(deadline, 1), 1);
-    }
+    each_deadline(
+        c,
+        &[
+            ("22 September, 365 days", 36_059, 36_060),
+            ("26 January, 242 days", 36_185, 36_186),
+            ("24 August, 30 days", 36_395, 36_396),
+        ],
+    );
     c.place("1,002 days are charged", 6, 1_001, 6);
     c.place("1,002 days are charged", 6, 1_002, 0);
     c.not_ceded("31 August", to_6(36_402, 1), 9);
-    for (why, arrival) in [
-        ("1 September", 36_403),
-        ("22 September, in time", 36_424),
-        ("30 September", 36_432),
-        ("1 October", 36_433),
-        ("30 November 2099", 36_493),
-        ("1 December 2099", 36_494),
-        ("31 December 2099", 36_524),
-        ("after the calendar", 36_525),
-        ("the largest number", 65_535),
-    ] {
-        c.not_ceded(why, to_6(arrival, 1), 8);
-    }
+    each_outside(
+        c,
+        &[
+            ("1 September", 36_403),
+            ("22 September, in time", 36_424),
+            ("30 September", 36_432),
+            ("1 October", 36_433),
+            ("30 November 2099", 36_493),
+            ("1 December 2099", 36_494),
+            ("31 December 2099", 36_524),
+            ("after the calendar", 36_525),
+            ("the largest number", 65_535),
+        ],
+    );
 }
 
 /// Cessions to which as many questions as can be are answered no, from the first
