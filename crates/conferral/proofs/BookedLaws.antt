@@ -11,9 +11,8 @@ use lib.IntN.{pos}
 use lib.ListN.{getD, length, length-set}
 use mir.Syntax.{w32}
 use mir.Val.{SFits}
-use Rattle.calendar.specs.Days.{between}
-use Rattle.calendar.specs.ThermalYears.{isThermalYear, inThermalYear, thermalFirst, thermalLast}
-use Rattle.calendar.proofs.Ranges.{and-right, within, is-between}
+use Rattle.calendar.specs.ThermalYears.{inThermalYear, thermalFirst}
+use Rattle.calendar.proofs.Ranges.{is-between}
 use Rattle.parts.specs.declared.points.Point.{Point}
 use Rattle.parts.specs.declared.accounts.Account.{Account}
 use Rattle.register.specs.declared.ledger.Line.{Line}
@@ -25,7 +24,7 @@ use Rattle.parts.specs.Accounts.{accountOk}
 use Rattle.register.specs.Order.{isMonthFirst, amountOk, lineOk}
 use Rattle.register.specs.Sound.{Sound}
 use Rattle.register.proofs.LedgerLaws.{with-length, read-back, read-other}
-use Rattle.parts.proofs.CalendarLaws.{year-facts}
+use Rattle.parts.proofs.CalendarLaws.{year-facts, day-within}
 use Rattle.parts.proofs.AmountLaws.{taken-length, taken-in, taken-out, each-place, taken-le}
 use Rattle.register.proofs.OrderFacts.{InOrder, ordered, in-order, guarantee-le, on-file-ok, line-ok}
 use Rattle.register.proofs.OrderKept.{set-keeps, account-same, account-other, field-kept, line-carry}
@@ -129,7 +128,7 @@ module _ (s : State) (g : Grant) (sound : Sound s) (b : Bookable s g) where
   other : (p d : ℕ) → p < pointCount → inThermalYear y d ≡ true → (p ≡ g .point → g .first ≤ d → d ≤ g .last → ⊥) → freeOn (booked s g) p d ≡ freeOn s p d
   unfolding booked
   other p d hp hd ne =
-      let w = within (thermalFirst y) (thermalLast y) d (and-right (isThermalYear y) (between (thermalFirst y) (thermalLast y) d) hd) in
+      let w = day-within y d hd in
       let m = year-facts y (order .year) .most in
       let r = in-row in
       let f = b .room .limits .fit in

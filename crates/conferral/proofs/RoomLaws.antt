@@ -8,7 +8,7 @@ use native.Mathlib.Nat.{mul-le-mul}
 use native.Mathlib.Omega.{arith}
 use lib.Dec.{leb}
 use borrow.Author.Tests.{ltb-true, leb-true, leb-false, lt-ltb, le-leb}
-use Rattle.calendar.specs.ThermalYears.{isThermalYear, inThermalYear, thermalFirst, thermalLast}
+use Rattle.calendar.specs.ThermalYears.{isThermalYear, inThermalYear}
 use Rattle.calendar.proofs.Ranges.{and-left, and-right, both, Within, within, is-between}
 use Rattle.parts.specs.declared.accounts.Account.{Account}
 use Rattle.register.specs.declared.ledger.Line.{Line}
@@ -19,7 +19,7 @@ use Rattle.register.specs.Ledger.{withLine}
 use Rattle.parts.specs.Amounts.{entryIn, taken}
 use Rattle.parts.specs.Charges.{charge, mostWord, chargeWord, charged}
 use Rattle.parts.proofs.TestLaws.{every-at}
-use Rattle.parts.proofs.CalendarLaws.{year-facts}
+use Rattle.parts.proofs.CalendarLaws.{year-facts, day-in}
 use Rattle.parts.proofs.AmountLaws.{entry-in}
 use Rattle.conferral.specs.declared.bookings.Grant.{Grant}
 use Rattle.conferral.specs.Spans.{spanFits}
@@ -82,9 +82,7 @@ module _ (y : ℕ) (g : Grant) where
 
   -- its first day lies in the year
   first-in : LimitFacts y g → inThermalYear y (g .first) ≡ true
-  first-in w =
-      both _ _ (w .year)
-      (is-between (thermalFirst y) (thermalLast y) (g .first) (w .fit .begins) (omega (arith, w .fit .ordered, w .fit .ends)))
+  first-in w = day-in y (g .first) (w .year) (w .fit .begins) (omega (arith, w .fit .ordered, w .fit .ends))
 
 -- its charge
 pub charge-within : (r : Register) (g : Grant) → LimitFacts (r .year) g → chargeWithin r g ≡ chargeOf r g

@@ -9,7 +9,7 @@ use lib.IntN.{pos, _+ℤ_, +ℤ-idr}
 use lib.ListN.{set, length}
 use lib.Seq.{getD-set-same, getD-set-other}
 use Rattle.calendar.specs.Days.{lastDay, between}
-use Rattle.calendar.specs.ThermalYears.{isThermalYear, inThermalYear, thermalFirst, thermalLast}
+use Rattle.calendar.specs.ThermalYears.{isThermalYear, inThermalYear, thermalLast}
 use Rattle.calendar.specs.Deadlines.{nextFirst}
 use Rattle.calendar.proofs.Ranges.{and-left, and-right, within}
 use Rattle.calendar.proofs.DateLaws.{month-least, month-in}
@@ -17,12 +17,12 @@ use Rattle.calendar.proofs.ThermalYearLaws.{thermal-next}
 use Rattle.calendar.proofs.DeadlineLaws.{next-least}
 use Rattle.register.specs.declared.ledger.Line.{Line}
 use Rattle.register.specs.Ledger.{lineAt, lineLast}
-use Rattle.parts.proofs.CalendarLaws.{thermal-year}
+use Rattle.parts.proofs.CalendarLaws.{thermal-year, day-within, day-year}
 use Rattle.holdings.specs.declared.holdings.Holding.{Holding}
 use Rattle.holdings.specs.declared.gathering.GatheredLine.{GatheredLine}
 use Rattle.holdings.specs.declared.ends.Bounds.{Bounds}
 use Rattle.holdings.specs.Holdings.{signedSum, isHis, coversDay, partOf, partIn}
-use Rattle.holdings.specs.Steps.{boundsOf, endOf, isGathered, gatheredLine, noLine, partOn, gatheredPart}
+use Rattle.holdings.specs.Steps.{boundsOf, endOf, isGathered, gatheredLine, noGatheredLine, partOn, gatheredPart}
 use Rattle.holdings.proofs.SumLaws.{sum-more, sum-same}
 
 -- a day between the bounds of a year is a day of it
@@ -40,8 +40,8 @@ bounds-in y d = go (isThermalYear y) refl
 -- the month of such a day ends in the calendar
 pub month-inside : (y d : ℕ) → inThermalYear y d ≡ true → nextFirst d ≤ lastDay
 month-inside y d h =
-    let w = thermal-year y (and-left (isThermalYear y) (between (thermalFirst y) (thermalLast y) d) h) in
-    let b = within (thermalFirst y) (thermalLast y) d (and-right (isThermalYear y) (between (thermalFirst y) (thermalLast y) d) h) in
+    let w = thermal-year y (day-year y d h) in
+    let b = day-within y d h in
     let october = next-least d (y + 1) 10 (omega (arith, w .from)) (record { from = omega arith; to = omega arith }) (omega (arith, b .to, thermal-next y)) in
     omega (arith, october, month-least (y + 1) 10, month-in (y + 1) 10 (record { year = record { from = omega (arith, w .from); to = omega (arith, w .to) }; month = record { from = omega arith; to = omega arith } }))
 
@@ -65,7 +65,7 @@ module _ (y : ℕ) (h : Holding) (b : Bounds) (l : Line) (eb : b ≡ boundsOf y)
 
   same-end : inThermalYear y (l .first) ≡ true → endOf (b .last) l ≡ lineLast y l
   unfolding lineLast
-  same-end t = ap (λ (n : ℕ). endOf n l) (year-end (and-left (isThermalYear y) (between (thermalFirst y) (thermalLast y) (l .first)) t))
+  same-end t = ap (λ (n : ℕ). endOf n l) (year-end (day-year y (l .first) t))
 
   -- what it adds on a day is what is kept of it
   pub gathered-part : (d : ℕ) → isGathered h b l ≡ true → cond (inThermalYear y (l .first)) (partOf y (h .user) (h .point) d l) (pos 0) ≡ partOn d (gatheredLine (b .last) l)
@@ -100,10 +100,10 @@ module _ (y : ℕ) (ls : List ℕ) (h : Holding) (i : ℕ) (b : Bounds) (l : Lin
       ∙ ap₂ (λ (x : List GatheredLine) (k : ℕ). signedSum k (gatheredPart x d)) (sym e) (sym en)
     where
       kept : signedSum n (gatheredPart (set cs n c) d) ≡ signedSum n (gatheredPart cs d)
-      kept = sum-same n (gatheredPart (set cs n c) d) (gatheredPart cs d) (λ k m. ap (partOn d) (getD-set-other cs n k c noLine (λ q. omega arith)))
+      kept = sum-same n (gatheredPart (set cs n c) d) (gatheredPart cs d) (λ k m. ap (partOn d) (getD-set-other cs n k c noGatheredLine (λ q. omega arith)))
 
       put : gatheredPart (set cs n c) d n ≡ partOn d (gatheredLine (b .last) l)
-      put = ap (partOn d) (getD-set-same cs n c noLine inside ∙ ec)
+      put = ap (partOn d) (getD-set-same cs n c noGatheredLine inside ∙ ec)
 
   -- it is left out
   pub one-left : (cs′ : List GatheredLine) (n′ : ℕ) → isGathered h b l ≡ false → cs′ ≡ cs → n′ ≡ n

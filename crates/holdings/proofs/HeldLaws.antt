@@ -11,11 +11,10 @@ use native.Mathlib.Numerals.{add-one}
 use native.Mathlib.Omega.{arith}
 use lib.IntN.{ℤ, pos}
 use lib.Signed.{ltZ}
-use Rattle.calendar.specs.ThermalYears.{thermalFirst, thermalLast}
-use Rattle.calendar.proofs.Ranges.{both, is-between}
 use Rattle.parts.specs.Limits.{lineCount}
 use Rattle.parts.specs.Tests.{allBelow}
 use Rattle.parts.specs.Registers.{State}
+use Rattle.parts.proofs.CalendarLaws.{day-in}
 use Rattle.parts.specs.Answers.{_asks_, numberOf}
 use Rattle.register.specs.Ledger.{lineAt}
 use Rattle.register.specs.Order.{inOrder}
@@ -130,7 +129,7 @@ lines-in s h =
       few = o .few;
       firsts = λ i l.
           let f = line-facts (r .year) (r .points) (r .accounts) (lineAt (s .ledger) i) (o .lines i l) in
-          both _ _ (o .year) (is-between (thermalFirst (r .year)) (thermalLast (r .year)) (lineAt (s .ledger) i .first) (f .first .from) (f .first .to));
+          day-in (r .year) (lineAt (s .ledger) i .first) (o .year) (f .first .from) (f .first .to);
     }
 
 module _ (y n : ℕ) (ls : List ℕ) (w : LinesIn y n ls) where

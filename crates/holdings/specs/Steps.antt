@@ -36,15 +36,15 @@ isGathered h b l = isHis (h .user) (h .point) l && between (b .first) (b .last) 
 abbrev pub gatheredLine : ℕ → Line → GatheredLine
 gatheredLine last l = record { first = l .first; last = endOf last l; amount = l .amount }
 
-abbrev pub noLine : GatheredLine
-noLine = record { first = 0; last = 0; amount = pos 0 }
+abbrev pub noGatheredLine : GatheredLine
+noGatheredLine = record { first = 0; last = 0; amount = pos 0 }
 
 -- what it adds on a day
 abbrev pub partOn : ℕ → GatheredLine → ℤ
 partOn d c = cond (between (c .first) (c .last) d) (c .amount) (pos 0)
 
 abbrev pub gatheredPart : List GatheredLine → ℕ → ℕ → ℤ
-gatheredPart cs d k = partOn d (getD cs k noLine)
+gatheredPart cs d k = partOn d (getD cs k noGatheredLine)
 
 -- all lines gathered: on every day they sum to what the first n lines of the ledger do
 pub record Gathers (y n : ℕ) (ls : List ℕ) (h : Holding) (c : Gathered) : Type 0 where

@@ -6,7 +6,7 @@ use Prim.Native.Nat.{ℕ, _+_, _≤_}
 use native.Mathlib.Omega.{arith}
 use Rattle.calendar.specs.Days.{leap, between}
 use Rattle.calendar.specs.ThermalYears.{isThermalYear, inThermalYear, thermalFirst, thermalLast, YearSpan}
-use Rattle.calendar.proofs.Ranges.{Within, within, cond-le}
+use Rattle.calendar.proofs.Ranges.{and-left, and-right, both, Within, within, is-between, cond-le}
 use Rattle.calendar.proofs.ThermalYearLaws.{thermal-next, thermal-days, thermal-order, thermal-last}
 use Rattle.parts.specs.Amounts.{yearDays}
 
@@ -37,6 +37,17 @@ year-facts y h =
 pub in-year : (y first last d : ℕ) (b : Bool) → YearSpan y first last → between first last d ≡ b → inThermalYear y d ≡ b
 in-year y first last d b s h =
     rw (s .year) (sym (ap₂ (λ (f l : ℕ). between f l d) (s .begins) (s .ends)) ∙ h)
+
+-- a day of a thermal year lies from its first to its last, and back
+pub day-within : (y d : ℕ) → inThermalYear y d ≡ true → Within (thermalFirst y) (thermalLast y) d
+day-within y d h =
+    within (thermalFirst y) (thermalLast y) d (and-right (isThermalYear y) (between (thermalFirst y) (thermalLast y) d) h)
+
+pub day-year : (y d : ℕ) → inThermalYear y d ≡ true → isThermalYear y ≡ true
+day-year y d h = and-left (isThermalYear y) (between (thermalFirst y) (thermalLast y) d) h
+
+pub day-in : (y d : ℕ) → isThermalYear y ≡ true → thermalFirst y ≤ d → d ≤ thermalLast y → inThermalYear y d ≡ true
+day-in y d h from to = both _ _ h (is-between (thermalFirst y) (thermalLast y) d from to)
 
 pub in-no-year : (y d : ℕ) → isThermalYear y ≡ false → inThermalYear y d ≡ false
 in-no-year y d h = rw h

@@ -6,21 +6,14 @@ use Prim.Native.Nat.{ℕ, _<_}
 use native.Mathlib.Omega.{arith}
 use lib.ListN.{length}
 use borrow.Author.Tests.{ltb-true}
-use Rattle.calendar.specs.Days.{between}
-use Rattle.calendar.specs.ThermalYears.{isThermalYear, thermalFirst, thermalLast, inThermalYear}
-use Rattle.calendar.proofs.Ranges.{and-right, Within, within}
+use Rattle.calendar.specs.ThermalYears.{inThermalYear}
 use Rattle.parts.specs.Limits.{pointCount}
 use Rattle.parts.specs.Registers.{State, pointAt}
 use Rattle.parts.specs.Amounts.{entryOf, freeOn}
 use Rattle.register.specs.Reports.{reportQuestions, reportNumber, reportAmount}
 use Rattle.parts.proofs.AnswerLaws.{passes, leaves-new, leaves-old}
-use Rattle.parts.proofs.CalendarLaws.{year-facts}
+use Rattle.parts.proofs.CalendarLaws.{year-facts, day-within}
 use Rattle.register.proofs.OrderFacts.{InOrder, ordered}
-
--- a day of the year
-pub day-within : (y d : ℕ) → inThermalYear y d ≡ true → Within (thermalFirst y) (thermalLast y) d
-day-within y d h =
-    within (thermalFirst y) (thermalLast y) d (and-right (isThermalYear y) (between (thermalFirst y) (thermalLast y) d) h)
 
 module _ (s : State) (p d : ℕ) where
   -- what an accepted one tells

@@ -10,8 +10,7 @@ use lib.ListN.{getD}
 use borrow.Author.Tests.{ltb-true, ltb-false, lt-ltb, le-ltb}
 use Rattle.calendar.specs.declared.thermal_years.Span.the-variants.{Days, OutsideCalendar}
 use Rattle.calendar.specs.Days.{between}
-use Rattle.calendar.specs.ThermalYears.{inThermalYear, thermalFirst, thermalLast}
-use Rattle.calendar.proofs.Ranges.{and-left, and-right, both, Within, within, is-between}
+use Rattle.calendar.proofs.Ranges.{and-left, and-right, Within, within}
 use Rattle.calendar.proofs.SpanLaws.{chosen, unchosen}
 use Rattle.parts.specs.declared.registers.Register.{Register}
 use Rattle.parts.specs.Limits.{pointCount, userCount, mostAmount}
@@ -19,6 +18,7 @@ use Rattle.parts.specs.Tests.{allBelow}
 use Rattle.parts.specs.Ranges.{leastOf}
 use Rattle.parts.specs.Amounts.{spanDays, entryOf, entryIn}
 use Rattle.parts.specs.Answers.{Question, numberOf}
+use Rattle.parts.proofs.CalendarLaws.{day-in}
 use Rattle.parts.proofs.AmountLaws.{entry-in}
 use Rattle.conferral.specs.declared.bookings.Grant.{Grant}
 use Rattle.conferral.specs.Bookings.{covers, isCovered}
@@ -111,7 +111,7 @@ module _ (r : Register) (f : List ℕ) (q : Request) where
   unfolding amountGranted
   granted-is first last place w e =
       let s = span-in r q first last w in
-      let in-year : inThermalYear (r .year) first ≡ true = both _ _ (s .year) (is-between (thermalFirst (r .year)) (thermalLast (r .year)) first (s .fit .begins) (omega (arith, s .fit .ordered, s .fit .ends))) in
+      let in-year = day-in (r .year) first (s .year) (s .fit .begins) (omega (arith, s .fit .ordered, s .fit .ends)) in
       let at = e ∙ entry-in (r .year) (q .point) first in-year in
       rw (at, w .ends) (ap (λ (d : ℕ). leastOf f (entryOf (r .year) (q .point) d) (spanDays d (spanLast r q)) (q .amount)) (w .begins))
 
