@@ -1,0 +1,6 @@
+pub mod AnswerLaws
+pub mod ShareLaws
+pub mod BookedLaws
+pub mod RefusalLaws
+pub mod Cases
+pub mod LoopLaws

@@ -1,0 +1,4 @@
+pub mod Batches
+pub mod Shares
+pub mod ConferBatch
+pub mod Steps
