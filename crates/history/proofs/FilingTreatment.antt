@@ -1,0 +1,80 @@
+-- How openings, guarantees and turns of the year are treated, by the reckoning of the calls before them.
+-- Assumes nothing.
+use mathlib.Core.Path.{refl, sym}
+use mathlib.Core.Bool.{true, false}
+use Prim.Native.Nat.{ℕ}
+use native.Mathlib.Omega.{arith}
+use borrow.Author.Tests.{leb-true, leb-false, ltb-true, ltb-false, not-true, not-false}
+use Rattle.parts.specs.Registers.{State, accountAt}
+use Rattle.parts.proofs.AnswerLaws.{passes, passed, leaves-new}
+use Rattle.parts.proofs.QuestionLaws.{refused-at}
+use Rattle.filing.specs.OpenPoint.{openQuestions, openNumber, opened, openAfter}
+use Rattle.filing.specs.PlaceGuarantee.{placeQuestions, placeNumber, placed, placeAfter}
+use Rattle.filing.specs.TurnYear.{turnQuestions, turnNumber, turned, turnAfter}
+use Rattle.filing.proofs.OpenLaws.{open-old}
+use Rattle.filing.proofs.PlaceLaws.{place-old}
+use Rattle.filing.proofs.TurnLaws.{turn-old}
+use Rattle.history.specs.Calls.{openPoint, placeGuarantee, turnYear, answer}
+use Rattle.history.specs.Reckoning.{Reckoning}
+use Rattle.history.specs.Demand3.{Treated}
+use Rattle.history.proofs.Agreement.{Agree}
+use Rattle.history.proofs.NumberLaws.{among}
+use Rattle.history.proofs.AgreedLaws.{never-disordered, open-by}
+
+module _ (s : State) (k : Reckoning) (w : Agree s k) where
+  pub open-treated : (p kind total rate : ℕ) → Treated s k (openPoint p kind total rate) (answer s (openPoint p kind total rate))
+  unfolding openNumber openAfter
+  open-treated p kind total rate =
+      let qs = openQuestions s p kind total rate in
+      record {
+        accepted = (passes qs refl, passed qs);
+        does = leaves-new (openNumber s p kind total rate) (opened s p kind total rate) s;
+        refused = λ n. (sym (open-old s p kind total rate n), (refl, (refl, refl)));
+        rule = λ h. refl;
+        grounds = λ z. let a = passes qs refl z in record { two = a .1 .0; four = open-by s k w p false (not-true _ (a .1 .1 .0)) };
+        reasons =
+            record {
+              only = among qs;
+              one = λ h. never-disordered s k w (refused-at qs 0 refl (omega arith) h);
+              two = λ h. refused-at qs 1 refl (omega arith) h .1;
+              four = λ h. open-by s k w p true (not-false _ (refused-at qs 2 refl (omega arith) h .1 .1));
+            };
+      }
+
+  pub place-treated : (u g : ℕ) → Treated s k (placeGuarantee u g) (answer s (placeGuarantee u g))
+  unfolding placeNumber placeAfter
+  place-treated u g =
+      let qs = placeQuestions s u g in
+      record {
+        accepted = (passes qs refl, passed qs);
+        does = leaves-new (placeNumber s u g) (placed s u g) s;
+        refused = λ n. (sym (place-old s u g n), (refl, (refl, refl)));
+        rule = λ h. refl;
+        grounds = λ z. let a = passes qs refl z in record { two = a .1 .0; six = omega (arith, leb-true (accountAt (s .register .accounts) u .commitment) g (a .1 .1 .0), w .balance u) };
+        reasons =
+            record {
+              only = among qs;
+              one = λ h. never-disordered s k w (refused-at qs 0 refl (omega arith) h);
+              two = λ h. refused-at qs 1 refl (omega arith) h .1;
+              six = λ h. omega (arith, leb-false (accountAt (s .register .accounts) u .commitment) g (refused-at qs 2 refl (omega arith) h .1 .1), w .balance u);
+            };
+      }
+
+  pub turn-treated : (y : ℕ) → Treated s k (turnYear y) (answer s (turnYear y))
+  unfolding turnNumber turnAfter
+  turn-treated y =
+      let qs = turnQuestions s y in
+      record {
+        accepted = (passes qs refl, passed qs);
+        does = leaves-new (turnNumber s y) (turned s y) s;
+        refused = λ n. (sym (turn-old s y n), (refl, (refl, refl)));
+        rule = λ h. refl;
+        grounds = λ z. let a = passes qs refl z in record { two = a .1 .0; fifteen = omega (arith, ltb-true (s .register .year) y (a .1 .1 .0), w .year) };
+        reasons =
+            record {
+              only = among qs;
+              one = λ h. never-disordered s k w (refused-at qs 0 refl (omega arith) h);
+              two = λ h. refused-at qs 1 refl (omega arith) h .1;
+              fifteen = λ h. omega (arith, ltb-false (s .register .year) y (refused-at qs 2 refl (omega arith) h .1 .1), w .year);
+            };
+      }
