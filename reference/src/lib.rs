@@ -4,6 +4,7 @@
 //! register. The two share no code, and what can be computed in more than one
 //! way is computed another way here.
 
+pub mod batch;
 pub mod calendar;
 pub mod cession;
 pub mod register;

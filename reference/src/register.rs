@@ -1,6 +1,7 @@
 //! The register, question 1, and the calls that grant no capacity: the fresh
 //! register, open point, place guarantee, turn the year and the report. The
-//! request is in [`crate::request`], the cession in [`crate::cession`].
+//! request is in [`crate::request`], the batch in [`crate::batch`], the cession
+//! in [`crate::cession`].
 //!
 //! The rules are those of document 01, sections "The register", "The changing
 //! calls", "Questions put to a call" and "Report and runner". What that paper
@@ -191,6 +192,7 @@ pub enum Refusal {
     NotCovered = 11,
     NothingFree = 12,
     LedgerFull = 13,
+    UserRepeated = 14,
     YearNotLater = 15,
 }
 

@@ -195,7 +195,12 @@ pub(crate) fn first_of_month_after(day: u32) -> Option<u32> {
 }
 
 /// The free amounts of a point on the days of a span.
-fn free_on<'a>(free: &'a mut [u32], year: u16, point: u8, span: &Span) -> Vec<&'a mut u32> {
+pub(crate) fn free_on<'a>(
+    free: &'a mut [u32],
+    year: u16,
+    point: u8,
+    span: &Span,
+) -> Vec<&'a mut u32> {
     let row = free.chunks_mut(DAYS_IN_ROW).nth(point.into());
     let days = thermal_year(year).map(|(first, last)| first..=last);
     let dated = row.into_iter().flatten().zip(days.into_iter().flatten());

@@ -6,6 +6,7 @@
 
 use std::collections::BTreeMap;
 
+use reference::batch::Batch;
 use reference::calendar::{thermal_year, working_days, Date};
 use reference::cession::{Cession, Holding};
 use reference::request::{Product, Request};
@@ -20,8 +21,8 @@ struct Point {
     rate: u64,
 }
 
-/// What an accepted request or one side of an accepted cession comes to: one line
-/// of the ledger.
+/// What an accepted request, a share of a batch or one side of an accepted cession
+/// comes to: one line of the ledger. Its days are in order.
 struct Entry {
     user: u8,
     point: u8,
@@ -30,6 +31,12 @@ struct Entry {
     amount: i64,
     charge: i64,
     is_grant: bool,
+}
+
+impl Entry {
+    fn covers(&self, day: u32) -> bool {
+        self.days.binary_search(&day).is_ok()
+    }
 }
 
 #[derive(Default)]
@@ -56,17 +63,20 @@ impl Reckoning {
         first..=last
     }
 
-    fn free(&self, point: u8, day: u32) -> u64 {
+    fn granted(&self, point: u8, day: u32) -> u64 {
         let grants = self.entries.iter().filter(|entry| entry.is_grant);
-        let granted = grants.filter(|grant| grant.point == point && grant.days.contains(&day));
-        let taken: i64 = granted.map(|grant| grant.amount).sum();
-        self.points[&point].total - u64::try_from(taken).unwrap()
+        let granted = grants.filter(|grant| grant.point == point && grant.covers(day));
+        u64::try_from(granted.map(|grant| grant.amount).sum::<i64>()).unwrap()
+    }
+
+    fn free(&self, point: u8, day: u32) -> u64 {
+        self.points[&point].total - self.granted(point, day)
     }
 
     /// What a user was granted and took over, less what he ceded.
     fn held(&self, user: u8, point: u8, day: u32) -> i64 {
         let own = self.entries.iter().filter(|entry| entry.user == user);
-        own.filter(|entry| entry.point == point && entry.days.contains(&day))
+        own.filter(|entry| entry.point == point && entry.covers(day))
             .map(|entry| entry.amount)
             .sum()
     }
@@ -154,6 +164,59 @@ impl Reckoning {
         }
     }
 
+    /// What a batch is answered with, lent so many places for shares and numbers.
+    fn answer_to_batch(&self, batch: &Batch, shares: u8, numbers: u8) -> Answer {
+        let lines = batch.users.len();
+        let others = [batch.asked.len(), shares.into(), numbers.into()];
+        if !(1..=64).contains(&lines) || others != [lines; 3] || batch.point >= 32 {
+            return Answer::Number(2);
+        }
+        if !self.points.contains_key(&batch.point) {
+            return Answer::Number(3);
+        }
+        if self.entries.len() + lines > 2_048 {
+            return Answer::Number(13);
+        }
+        let numbers: Vec<u8> = (0..lines).map(|i| self.number_of_line(batch, i)).collect();
+        let passing = (0..lines).filter(|&i| numbers[i] == 0);
+        let sum: u64 = passing.map(|i| batch.asked[i]).sum();
+        let free = self.days_of_year().map(|day| self.free(batch.point, day));
+        let least = free.min().unwrap();
+        let answers = (0..lines).map(|i| {
+            let share = match numbers[i] {
+                0 if sum <= least => batch.asked[i],
+                0 => batch.asked[i] * least / sum,
+                _ => 0,
+            };
+            let number = if numbers[i] == 0 && share == 0 {
+                12
+            } else {
+                numbers[i]
+            };
+            (u32::try_from(share).unwrap(), number)
+        });
+        Answer::Lines(answers.collect())
+    }
+
+    /// The questions 2, 14, 5 and 11 of a line.
+    fn number_of_line(&self, batch: &Batch, line: usize) -> u8 {
+        let (user, asked) = (batch.users[line], batch.asked[line]);
+        if user >= 64 || !(1..=9_999_999).contains(&asked) {
+            return 2;
+        }
+        if batch.users[..line].contains(&user) {
+            return 14;
+        }
+        let Some(&guarantee) = self.guarantees.get(&user) else {
+            return 5;
+        };
+        let charge = asked * self.days_of_year().count() as u64 * self.points[&batch.point].rate;
+        match self.commitment(user) + charge <= guarantee {
+            true => 0,
+            false => 11,
+        }
+    }
+
     /// The number and the amount that a cession is answered with.
     fn answer_to_cession(&self, cession: Cession) -> (u8, u64) {
         let Cession {
@@ -204,27 +267,38 @@ impl Reckoning {
         short.map_or((0, 0), |day| (10, day.into()))
     }
 
-    /// Asserts that a request, a cession, a holding or a report is answered as
-    /// reckoned. There is no register before the first that is accepted, and of the reports only
-    /// those with the number 0 are reckoned.
-    fn assert_answer(&self, step: Step, answer: Answer) {
-        let expected = match step {
-            Step::Request(_) | Step::Cession(_) if self.year == 0 => (1, 0),
-            Step::Request(request) => self.answer(request),
-            Step::Cession(cession) => self.answer_to_cession(cession),
-            Step::Held(holding) => self.answer_to_holding(holding),
+    /// Asserts that a request, a batch, a cession, a holding or a report is answered
+    /// as reckoned. There is no register before the first that is accepted, and of
+    /// the reports only those with the number 0 are reckoned.
+    fn assert_answer(&self, step: &Step, answer: &Answer) {
+        let amount =
+            |(number, amount): (u8, u64)| Answer::Amount(number, amount.try_into().unwrap());
+        let expected = match *step {
+            Step::Batch { .. } if self.year == 0 => Answer::Number(1),
+            Step::Request(_) | Step::Cession(_) if self.year == 0 => Answer::Amount(1, 0),
+            Step::Request(request) => amount(self.answer(request)),
+            Step::Batch {
+                ref batch,
+                shares,
+                numbers,
+            } => self.answer_to_batch(batch, shares, numbers),
+            Step::Cession(cession) => amount(self.answer_to_cession(cession)),
+            Step::Held(holding) => amount(self.answer_to_holding(holding)),
             Step::Report { point, day } if answer.number() == Some(0) => {
-                (0, self.free(point, day.into()))
+                amount((0, self.free(point, day.into())))
             }
             _ => return,
         };
-        let expected = Answer::Amount(expected.0, expected.1.try_into().unwrap());
-        assert_eq!(answer, expected, "{step}");
+        assert_eq!(*answer, expected, "{step}");
     }
 
-    /// What a call that is answered 0 does.
-    fn count(&mut self, step: Step, amount: u64) {
-        match step {
+    /// What a call that is answered 0 does, with the amount or the shares answered.
+    fn count(&mut self, step: &Step, answer: &Answer) {
+        let amount: i64 = match *answer {
+            Answer::Amount(_, amount) => amount.into(),
+            _ => 0,
+        };
+        match *step {
             Step::Fresh { year } => {
                 *self = Reckoning {
                     year,
@@ -247,10 +321,20 @@ impl Reckoning {
                 self.year = year;
                 self.entries.clear();
             }
-            Step::Request(request) => self.count_grant(request, amount as i64),
+            Step::Request(request) => self.count_grant(request, amount),
+            Step::Batch { ref batch, .. } => {
+                let Answer::Lines(lines) = answer else {
+                    panic!("{step} has no lines")
+                };
+                for (&user, &(share, _)) in batch.users.iter().zip(lines) {
+                    if share > 0 {
+                        self.count_share(user, batch.point, share.into());
+                    }
+                }
+            }
             Step::Cession(cession) => {
-                self.count_side(cession, cession.giver, -(amount as i64));
-                self.count_side(cession, cession.receiver, amount as i64);
+                self.count_side(cession, cession.giver, -amount);
+                self.count_side(cession, cession.receiver, amount);
             }
             Step::Held(_) | Step::Report { .. } => {}
             Step::Set(..) | Step::Repeat { .. } => panic!("{step} is no call"),
@@ -268,6 +352,20 @@ impl Reckoning {
                 Product::Day(_) => 3,
             },
             charge: amount * days.len() as i64 * self.points[&request.point].rate as i64,
+            days,
+            amount,
+            is_grant: true,
+        });
+    }
+
+    /// A share covers the whole year.
+    fn count_share(&mut self, user: u8, point: u8, amount: i64) {
+        let days: Vec<u32> = self.days_of_year().collect();
+        self.entries.push(Entry {
+            user,
+            point,
+            kind: 1,
+            charge: amount * days.len() as i64 * self.points[&point].rate as i64,
             days,
             amount,
             is_grant: true,
@@ -305,17 +403,28 @@ impl Reckoning {
         }
     }
 
-    /// What a register holds at the end of a sequence, but for its lines.
+    /// What a register holds when its year ends, but for its lines. Document 01's
+    /// demand 3: granted and free are the total, and a commitment with what was
+    /// ceded is what was charged and taken over, within the guarantee.
     fn assert_held(&self, host: &Host) {
-        for &point in self.points.keys() {
+        for (&point, Point { total, .. }) in &self.points {
             for (place, day) in (u16::from(point) * 366..).zip(self.days_of_year()) {
-                assert_eq!(host.get(Field::Free(place)), self.free(point, day));
+                let free = host.get(Field::Free(place));
+                assert_eq!(self.granted(point, day) + free, *total);
             }
         }
         for (&user, &guarantee) in &self.guarantees {
-            let commitment = self.commitment(user);
+            let own = || self.entries.iter().filter(|entry| entry.user == user);
+            let sum = |test: fn(&Entry) -> bool| -> u64 {
+                let charges = own().filter(|entry| test(entry)).map(|entry| entry.charge);
+                charges.map(i64::unsigned_abs).sum()
+            };
+            let charged = sum(|entry| entry.is_grant);
+            let taken_over = sum(|entry| !entry.is_grant && entry.amount > 0);
+            let ceded = sum(|entry| !entry.is_grant && entry.amount < 0);
+            let commitment = host.get(Field::Commitment(user));
+            assert_eq!(commitment + ceded, charged + taken_over);
             assert!(commitment <= guarantee);
-            assert_eq!(host.get(Field::Commitment(user)), commitment);
         }
     }
 }
@@ -327,32 +436,35 @@ fn is_call(step: &Step) -> bool {
 #[test]
 fn the_sequences_of_calls_are_answered_as_reckoned() {
     let mut host = Host::default();
-    let (mut requests, mut cessions, mut holdings) = (0, 0, 0);
+    let (mut requests, mut batches, mut cessions, mut holdings) = (0, 0, 0, 0);
     for sequence in random::sequences(host.clone()) {
         let has_calls_only = sequence.iter().all(is_call);
         let mut reckoning = Reckoning::default();
-        for step in sequence {
+        for step in &sequence {
+            // A turn frees all that was granted, so the end would be too late.
+            if has_calls_only && reckoning.year > 0 && matches!(step, Step::Turn { .. }) {
+                reckoning.assert_held(&host);
+            }
             let answer = host.run(step);
             if !has_calls_only {
                 continue;
             }
-            reckoning.assert_answer(step, answer);
+            reckoning.assert_answer(step, &answer);
             requests += usize::from(matches!(step, Step::Request(_)));
+            batches += usize::from(matches!(step, Step::Batch { .. }));
             cessions += usize::from(matches!(step, Step::Cession(_)));
             holdings += usize::from(matches!(step, Step::Held(_)));
-            match answer {
-                Answer::Number(0) => reckoning.count(step, 0),
-                Answer::Amount(0, amount) => reckoning.count(step, amount.into()),
-                _ => continue,
+            if answer.number() == Some(0) {
+                reckoning.count(step, &answer);
+                reckoning.assert_lines(&host);
             }
-            // A turn empties the ledger, so the end of a sequence would be too late.
-            reckoning.assert_lines(&host);
         }
         if has_calls_only {
             reckoning.assert_held(&host);
         }
     }
     assert!(requests >= 1_000, "{requests} requests");
+    assert!(batches >= 200, "{batches} batches");
     assert!(cessions >= 600, "{cessions} cessions");
     assert!(holdings >= 200, "{holdings} holdings");
 }

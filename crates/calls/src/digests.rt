@@ -1,6 +1,7 @@
-// A digest of the register and of both lists. It changes with any single number: the prime is above every number of 32 bits.
+// A digest of the register and of the lists that calls write to. It changes with any single number: the prime is above every number of 32 bits.
 use crate::steps::high;
 use crate::steps::low;
+use crate::steps::wide;
 use register::Account;
 use register::Point;
 use register::Register;
@@ -60,10 +61,21 @@ fn with_list(digest: u64, list: &[u32]) -> u64 {
     d
 }
 
-pub fn digest_of(r: Register, free: &[u32], ledger: &[u32]) -> u64 {
+fn with_bytes(digest: u64, list: &[u8]) -> u64 {
+    let mut d = digest;
+    let mut i: usize = 0;
+    while i < list.len() {
+        d = with_number(d, wide(list[i]));
+        i += 1;
+    }
+    d
+}
+
+pub fn digest_of(r: Register, free: &[u32], ledger: &[u32], shares: &[u32], numbers: &[u8]) -> u64 {
     let points = r.points;
     let accounts = r.accounts;
     let head = with_number(with_number(0, r.year as u32), r.lines as u32);
     let fixed = with_accounts(with_points(head, points), accounts);
-    with_list(with_list(fixed, free), ledger)
+    let lists = with_list(with_list(fixed, free), ledger);
+    with_bytes(with_list(lists, shares), numbers)
 }

@@ -1,12 +1,17 @@
-// The host: it keeps the register between the calls and lends the two lists, and it can write any number of them.
+// The host: it keeps the register between the calls and lends the lists, and it can write any number of the register, of the free
+// amounts and of the ledger.
 ghost use Prim.Native.Nat.{_≤_};
 use crate::steps::Step;
 use crate::steps::byte;
 use crate::steps::half;
 use crate::steps::is_call;
+use crate::steps::is_reading;
 use crate::steps::low;
-use cessions::Ceded;
 use cessions::Cession;
+use history::Applied;
+use history::Change;
+use history::Guarantee;
+use history::Opening;
 use holdings::Held;
 use holdings::Holding;
 use register::Account;
@@ -14,17 +19,20 @@ use register::Filed;
 use register::Point;
 use register::Register;
 use register::Report;
-use requests::Conferred;
 use requests::Product;
 use requests::Request;
 
-// Both lists have some numbers more than a call is lent, so that a longer list can be tried.
+// Every list has some numbers more than a call is lent, so that a longer list can be tried.
 pub const TABLE_SPACE: usize = 11_720;
 
 pub const LEDGER_SPACE: usize = 10_248;
 
-// What every number of both lists is before the first step.
+pub const BATCH_SPACE: usize = 72;
+
+// What every number of the lists is before the first step.
 pub const UNUSED: u32 = 7;
+
+pub const UNUSED_NUMBER: u8 = 7;
 
 // What the host holds besides the lists: the register, how much of each list a call is lent, and the last answer.
 pub struct Host {
@@ -86,24 +94,9 @@ fn after_report(h: Host, answer: Report) -> Host {
     )
 }
 
-fn after_request(h: Host, c: Conferred) -> Host {
-    let answer = c.answer;
-    answered(
-        h,
-        c.register,
-        requests::conferral_number(answer),
-        requests::conferral_amount(answer),
-    )
-}
-
-fn after_cession(h: Host, c: Ceded) -> Host {
-    let answer = c.answer;
-    answered(
-        h,
-        c.register,
-        cessions::cession_number(answer),
-        cessions::cession_amount(answer),
-    )
+fn after_change(h: Host, a: Applied) -> Host {
+    let r = a.register;
+    answered(h, r, a.number, a.amount)
 }
 
 // Nothing is altered. Question 10 gives the number, and the short day stands where another answer has its amount.
@@ -171,42 +164,102 @@ fn run_reading(h: Host, s: Step, free: &[u32], ledger: &[u32]) -> Host {
     )
 }
 
-// A call, with what it is lent.
-fn run_call(h: Host, s: Step, free: &mut [u32], ledger: &mut [u32]) -> Host {
-    let r = h.register;
+// The changing call of a step. The script has no other letters here.
+fn change_of(s: Step) -> Change {
     let letter = s.letter;
     match letter {
-        b'F' => after_call(h, register::fresh_register(half(s.period), free, ledger)),
-        b'P' => after_call(
-            h,
-            filing::open_point(
-                r,
-                free,
-                &ledger[..],
-                byte(s.index),
-                byte(s.kind),
-                s.value,
-                s.rate,
-            ),
-        ),
-        b'G' => after_call(
-            h,
-            filing::place_guarantee(r, &free[..], &ledger[..], byte(s.index), s.value),
-        ),
-        b'Y' => after_call(h, filing::turn_year(r, free, ledger, half(s.period))),
-        b'R' => after_request(
-            h,
-            requests::request_capacity(r, free, ledger, request_of(s)),
-        ),
-        b'C' => after_cession(h, cessions::cede_capacity(r, free, ledger, cession_of(s))),
-        _ => run_reading(h, s, &free[..], &ledger[..]),
+        b'P' => Change::OpenPoint(Opening {
+            point: byte(s.index),
+            kind: byte(s.kind),
+            total: s.value,
+            rate: s.rate,
+        }),
+        b'G' => Change::PlaceGuarantee(Guarantee {
+            user: byte(s.index),
+            guarantee: s.value,
+        }),
+        b'R' => Change::RequestCapacity(request_of(s)),
+        b'B' => Change::ConferBatch(byte(s.index)),
+        b'C' => Change::CedeCapacity(cession_of(s)),
+        _ => Change::TurnYear(half(s.period)),
     }
 }
 
-fn lend(h: Host, s: Step, free: &mut [u32], ledger: &mut [u32]) -> Host {
+// A changing call, with as much of the four lists of a batch as it is lent. Only a batch looks at these.
+fn run_change(
+    h: Host,
+    s: Step,
+    free: &mut [u32],
+    ledger: &mut [u32],
+    users: &[u8],
+    asked: &[u64],
+    shares: &mut [u32],
+    numbers: &mut [u8],
+) -> Host {
+    let users_end = least(s.kind as usize, users.len());
+    let asked_end = least(s.period as usize, asked.len());
+    let shares_end = least(s.arrival as usize, shares.len());
+    let numbers_end = least(s.user as usize, numbers.len());
+    let r = h.register;
+    let change = change_of(s);
+    after_change(
+        h,
+        history::apply(
+            r,
+            free,
+            ledger,
+            change,
+            &users[..users_end],
+            &asked[..asked_end],
+            &mut shares[..shares_end],
+            &mut numbers[..numbers_end],
+        ),
+    )
+}
+
+// A call, with what it is lent.
+fn run_call(
+    h: Host,
+    s: Step,
+    free: &mut [u32],
+    ledger: &mut [u32],
+    users: &[u8],
+    asked: &[u64],
+    shares: &mut [u32],
+    numbers: &mut [u8],
+) -> Host {
+    let letter = s.letter;
+    if is_reading(letter) {
+        return run_reading(h, s, &free[..], &ledger[..]);
+    }
+    if letter == b'F' {
+        return after_call(h, register::fresh_register(half(s.period), free, ledger));
+    }
+    run_change(h, s, free, ledger, users, asked, shares, numbers)
+}
+
+fn lend(
+    h: Host,
+    s: Step,
+    free: &mut [u32],
+    ledger: &mut [u32],
+    users: &[u8],
+    asked: &[u64],
+    shares: &mut [u32],
+    numbers: &mut [u8],
+) -> Host {
     let table_end = least(h.table, free.len());
     let ledger_end = least(h.ledger, ledger.len());
-    run_call(h, s, &mut free[..table_end], &mut ledger[..ledger_end])
+    run_call(
+        h,
+        s,
+        &mut free[..table_end],
+        &mut ledger[..ledger_end],
+        users,
+        asked,
+        shares,
+        numbers,
+    )
 }
 
 fn written_point(p: Point, letter: u8, value: u64) -> Point {
@@ -298,10 +351,19 @@ fn write_held(h: Host, s: Step) -> Host {
 }
 
 // Runs a step of any kind.
-pub fn run_step(h: Host, s: Step, free: &mut [u32], ledger: &mut [u32]) -> Host {
+pub fn run_step(
+    h: Host,
+    s: Step,
+    free: &mut [u32],
+    ledger: &mut [u32],
+    users: &[u8],
+    asked: &[u64],
+    shares: &mut [u32],
+    numbers: &mut [u8],
+) -> Host {
     let letter = s.letter;
     if is_call(letter) {
-        return lend(h, s, free, ledger);
+        return lend(h, s, free, ledger, users, asked, shares, numbers);
     }
     if letter == b'a' {
         write_number(free, s);

@@ -47,6 +47,16 @@ fn print_request(s: Step) {
     print_field(s.value);
 }
 
+// A batch by its point and the lengths of its lists.
+fn print_batch(s: Step) {
+    print_text(b" batch");
+    print_field(s.index as u64);
+    print_field(s.kind as u64);
+    print_field(s.period as u64);
+    print_field(s.arrival as u64);
+    print_field(s.user as u64);
+}
+
 fn print_cession(s: Step) {
     print_text(b" cession");
     print_field(s.user as u64);
@@ -83,6 +93,7 @@ fn print_call(s: Step) {
             print_field(s.period as u64);
         }
         b'R' => print_request(s),
+        b'B' => print_batch(s),
         b'C' => print_cession(s),
         b'H' => print_holding(s),
         _ => {
@@ -159,7 +170,15 @@ fn print_answer(h: Host, letter: u8) {
 }
 
 // Prints a step with the host after it.
-pub fn print_line(position: u64, s: Step, h: Host, free: &[u32], ledger: &[u32]) {
+pub fn print_line(
+    position: u64,
+    s: Step,
+    h: Host,
+    free: &[u32],
+    ledger: &[u32],
+    shares: &[u32],
+    numbers: &[u8],
+) {
     let letter = s.letter;
     let r = h.register;
     io::print_decimal(STDOUT_FILENO, position);
@@ -170,6 +189,6 @@ pub fn print_line(position: u64, s: Step, h: Host, free: &[u32], ledger: &[u32])
         print_write(s);
     }
     print_text(b" digest");
-    print_field(digest_of(r, free, ledger));
+    print_field(digest_of(r, free, ledger, shares, numbers));
     print_text(b"\n");
 }

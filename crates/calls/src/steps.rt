@@ -12,6 +12,12 @@ pub struct Step {
     pub user: u32,
 }
 
+// A line of a batch.
+pub struct Line {
+    pub user: u8,
+    pub asked: u64,
+}
+
 fn word(a: u8, b: u8, c: u8, d: u8) -> u32 {
     (a as u32) + 256 * (b as u32) + 65_536 * (c as u32) + 16_777_216 * (d as u32)
 }
@@ -41,6 +47,21 @@ pub fn step_of(r: &[u8; 36]) -> Step {
     }
 }
 
+// The three words of a line: the user, and the asked amount, low half first.
+pub fn line_of(r: &[u8; 12]) -> Line {
+    let low = word(r[4], r[5], r[6], r[7]);
+    let high = word(r[8], r[9], r[10], r[11]);
+    Line {
+        user: r[0],
+        asked: joined(low, high),
+    }
+}
+
+// How many lines follow the record of a step in the script.
+pub fn lines_after(s: Step) -> u32 {
+    if s.letter == b'B' { s.rate } else { 0 }
+}
+
 // Whether a step is a call, which has an answer; the others write numbers.
 pub fn is_call(letter: u8) -> bool {
     match letter {
@@ -49,11 +70,17 @@ pub fn is_call(letter: u8) -> bool {
         b'G' => true,
         b'Y' => true,
         b'R' => true,
+        b'B' => true,
         b'C' => true,
         b'Q' => true,
         b'H' => true,
         _ => false,
     }
+}
+
+// Whether a call only reads: a report, or the question for the first day with too little.
+pub fn is_reading(letter: u8) -> bool {
+    (letter == b'Q') | (letter == b'H')
 }
 
 // Numbers as wide as a field takes them. The script has none that does not fit.
@@ -63,6 +90,10 @@ pub fn byte(x: u32) -> u8 {
 
 pub fn half(x: u32) -> u16 {
     (x % 65_536) as u16
+}
+
+pub fn wide(x: u8) -> u32 {
+    x as u32
 }
 
 // The two halves of a wide number.

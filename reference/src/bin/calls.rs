@@ -12,7 +12,7 @@ fn main() -> io::Result<()> {
     match std::env::args().nth(1).as_deref() {
         Some("script") => {
             for step in steps {
-                out.write_all(&step.record())?;
+                out.write_all(&step.bytes())?;
             }
         }
         Some("answers") => {

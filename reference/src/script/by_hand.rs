@@ -1,16 +1,18 @@
-//! Steps written by hand. The number and the amount or day of each answer stand
-//! here as document 01 gives them; none is computed. Of the fields of the steps
+//! Steps written by hand. The number and the amount, shares or day of each answer
+//! stand here as document 01 gives them; none is computed. Of the fields of the steps
 //! one is: the arrival of the request and the cession in `damaged`, the day before
 //! a gas-day.
 //!
 //! Days: thermal year 2023 runs from day 8,674 to 9,039 and has 366 days, 2022
 //! from 8,309 to 8,673 and 2024 from 9,040 to 9,404, each with 365.
 
+mod batches;
 mod cessions;
 mod holdings;
 mod requests;
 
 use super::{Answer, Field, Step};
+use crate::batch::Batch;
 use crate::cession::{Cession, Holding};
 use crate::request::{Product, Request};
 use Field::*;
@@ -83,6 +85,19 @@ impl Cases {
         self.push(why, Step::Request(request), Answer::Amount(number, 0));
     }
 
+    /// A batch that is accepted. A line is its user and asked amount, then its
+    /// share and number.
+    fn batch(&mut self, why: &str, point: u8, lines: &[(u8, u64, u32, u8)]) {
+        let asked: Vec<(u8, u64)> = lines.iter().map(|line| (line.0, line.1)).collect();
+        let answers = lines.iter().map(|line| (line.2, line.3)).collect();
+        self.push(why, batch(point, &asked), Answer::Lines(answers));
+    }
+
+    /// A batch that is refused as a whole.
+    fn no_batch(&mut self, why: &str, point: u8, lines: &[(u8, u64)], number: u8) {
+        self.push(why, batch(point, lines), Answer::Number(number));
+    }
+
     fn ceded(&mut self, why: &str, cession: Cession, amount: u32) {
         self.push(why, Step::Cession(cession), Answer::Amount(0, amount));
     }
@@ -118,6 +133,7 @@ impl Cases {
         self.turn(why, 2098, 1);
         self.refused(why, day(5, point, gas_day, gas_day - 1, 1), 1);
         self.not_ceded(why, cession(5, 63, point, gas_day - 1, 1), 1);
+        self.no_batch(why, point, &[(5, 1)], 1);
         for &(field, _, usual) in changes.iter().rev() {
             self.set("repaired", field, usual);
         }
@@ -161,6 +177,21 @@ fn day(user: u8, point: u8, day: u16, arrival: u16, amount: u64) -> Request {
     Request {
         product: Product::Day(day),
         ..annual(user, point, arrival, amount)
+    }
+}
+
+/// A batch of these lines, user and asked amount, with lists as long as it.
+fn batch(point: u8, lines: &[(u8, u64)]) -> Step {
+    let length = u8::try_from(lines.len()).expect("a short list");
+    let (users, asked) = lines.iter().copied().unzip();
+    Step::Batch {
+        batch: Batch {
+            point,
+            users,
+            asked,
+        },
+        shares: length,
+        numbers: length,
     }
 }
 
@@ -219,6 +250,7 @@ pub fn cases() -> Vec<Case> {
     requests::add_to(&mut cases);
     cessions::add_to(&mut cases);
     holdings::add_to(&mut cases);
+    batches::add_to(&mut cases);
     cases.cases
 }
 
@@ -229,6 +261,7 @@ fn fresh_registers(c: &mut Cases) {
     c.turn("no register yet", 2023, 1);
     c.refused("no register yet", day(5, 0, 8700, 8699, 600), 1);
     c.not_ceded("no register yet", cession(5, 6, 0, 8689, 10), 1);
+    c.no_batch("no register yet", 0, &[(5, 600)], 1);
     c.fresh("one before the first year", 1999, 2);
     c.fresh("one after the last year", 2099, 2);
     c.fresh("no year", 0, 2);

@@ -20,6 +20,11 @@
 //!   first;
 //! - 8: the user of a request or a holding, the giver of a cession.
 //!
+//! Of a batch, words 2, 3, 5 and 8 are the lengths of its four lists: users, asked
+//! amounts, shares and numbers. Word 4 says how many lines follow its record, as
+//! many as the longer of the first two lists has: each is three words, the user
+//! and the asked amount, low half first. Both lists start from the first line.
+//!
 //! A cession names two users and has no period, so that the word of the period
 //! is the receiver's. A holding has two days and no arrival, so that the word of
 //! the arrival is the last day's.
@@ -29,14 +34,16 @@
 //! A line of the output has the position of the step from 1, the step, the
 //! number of its answer after `->`, for a report the free amount, for a request
 //! the amount granted, for a cession the amount ceded and for a holding the first
-//! day with too little (0 where there is none), and a digest of the register and
-//! of both lists.
+//! day with too little (0 where there is none), and a digest of the register, of
+//! both lists and of a batch's shares and numbers. A batch is printed as its point
+//! and the lengths of its lists.
 
 pub mod by_hand;
 pub mod random;
 
 use std::fmt;
 
+use crate::batch::{Batch, Lists, BATCH_LINES};
 use crate::cession::{Cession, Holding};
 use crate::register::{Lent, Refusal, Register, LEDGER_LENGTH, NUMBERS_IN_LINE, TABLE_LENGTH};
 use crate::request::{Product, Request};
@@ -45,8 +52,11 @@ use crate::request::{Product, Request};
 /// call that writes there is found by the digest.
 const SPARE: usize = 8;
 
-/// What every number of both lists is before the first step.
-const UNUSED: u32 = 7;
+/// How many numbers each list of a batch has, those that are not lent included.
+const BATCH_SPACE: usize = *BATCH_LINES.end() + SPARE;
+
+/// What every number of the lists is before the first step.
+const UNUSED: u8 = 7;
 
 /// A prime above every number of 32 bits, so that a digest changes with any
 /// single number.
@@ -95,7 +105,7 @@ impl Field {
 }
 
 /// One step of the script.
-#[derive(Debug, Clone, Copy, PartialEq, Eq)]
+#[derive(Debug, Clone, PartialEq, Eq)]
 pub enum Step {
     Fresh {
         year: u16,
@@ -114,6 +124,13 @@ pub enum Step {
         year: u16,
     },
     Request(Request),
+    /// A batch, with the lengths of the lists that it is lent for the shares and
+    /// for the numbers of its lines.
+    Batch {
+        batch: Batch,
+        shares: u8,
+        numbers: u8,
+    },
     Cession(Cession),
     /// Question 10, put by itself to a register in order.
     Held(Holding),
@@ -131,6 +148,9 @@ pub enum Step {
 
 /// The record of a step: nine words of 32 bits.
 pub type Record = [u8; 36];
+
+/// The record of a line of a batch: three words of 32 bits.
+type LineRecord = [u8; 12];
 
 /// What the words of a record hold, in their order.
 #[derive(Debug, Default)]
@@ -160,6 +180,20 @@ impl Words {
             arrival: request.arrival,
             value: request.amount,
             user: request.user,
+            ..Words::default()
+        }
+    }
+
+    fn of_batch(batch: &Batch, shares: u8, numbers: u8) -> Words {
+        let short = |length: usize| u8::try_from(length).expect("a short list");
+        Words {
+            letter: b'B',
+            index: batch.point.into(),
+            kind: short(batch.users.len()),
+            period: short(batch.asked.len()).into(),
+            rate: short(line_records(batch).len()).into(),
+            arrival: shares.into(),
+            user: numbers,
             ..Words::default()
         }
     }
@@ -202,20 +236,43 @@ impl Words {
     }
 }
 
+/// The records of the lines of a batch. Where one of the lists is shorter, 0
+/// stands in its place.
+fn line_records(batch: &Batch) -> Vec<LineRecord> {
+    let lines = batch.users.len().max(batch.asked.len());
+    let at = |line: usize| {
+        let mut record = [0; 12];
+        record[0] = batch.users.get(line).copied().unwrap_or(0);
+        let asked = batch.asked.get(line).copied().unwrap_or(0);
+        record[4..12].copy_from_slice(&asked.to_le_bytes());
+        record
+    };
+    (0..lines).map(at).collect()
+}
+
 impl Step {
     /// The letter of the step in the script.
-    pub fn letter(self) -> u8 {
+    pub fn letter(&self) -> u8 {
         self.words().letter
     }
 
     /// The record of the step.
-    pub fn record(self) -> Record {
+    pub fn record(&self) -> Record {
         self.words().record()
     }
 
-    fn words(self) -> Words {
+    /// What stands in the script: the record and, for a batch, those of its lines.
+    pub fn bytes(&self) -> Vec<u8> {
+        let lines = match self {
+            Step::Batch { batch, .. } => line_records(batch),
+            _ => Vec::new(),
+        };
+        [&self.record()[..], lines.as_flattened()].concat()
+    }
+
+    fn words(&self) -> Words {
         let none = Words::default();
-        match self {
+        match *self {
             Step::Fresh { year } => Words {
                 letter: b'F',
                 period: year,
@@ -246,6 +303,11 @@ impl Step {
                 ..none
             },
             Step::Request(request) => Words::of_request(request),
+            Step::Batch {
+                ref batch,
+                shares,
+                numbers,
+            } => Words::of_batch(batch, shares, numbers),
             Step::Cession(cession) => Words::of_cession(cession),
             Step::Held(holding) => Words::of_holding(holding),
             Step::Report { point, day } => Words {
@@ -285,6 +347,19 @@ impl fmt::Display for Step {
             Step::Place { user, guarantee } => write!(f, "place {user} {guarantee}"),
             Step::Turn { year } => write!(f, "turn {year}"),
             Step::Request(request) => write_request(f, request),
+            Step::Batch {
+                ref batch,
+                shares,
+                numbers,
+            } => {
+                let Batch {
+                    point,
+                    users,
+                    asked,
+                } = batch;
+                let (users, asked) = (users.len(), asked.len());
+                write!(f, "batch {point} {users} {asked} {shares} {numbers}")
+            }
             Step::Cession(cession) => write_cession(f, cession),
             Step::Held(holding) => write_holding(f, holding),
             Step::Report { point, day } => write!(f, "report {point} {day}"),
@@ -330,7 +405,7 @@ fn write_holding(f: &mut fmt::Formatter<'_>, holding: Holding) -> fmt::Result {
 }
 
 /// What a step answers; a step that writes a number answers nothing.
-#[derive(Debug, Clone, Copy, PartialEq, Eq)]
+#[derive(Debug, Clone, PartialEq, Eq)]
 pub enum Answer {
     None,
     /// The number of a call that has no amount to tell.
@@ -340,14 +415,18 @@ pub enum Answer {
     /// 0 if the call is refused. For a holding, 0 and 0 or 10 and the first day
     /// with too little.
     Amount(u8, u32),
+    /// A batch that is accepted: the share and the number of each of its lines.
+    /// They are seen in the digest alone. One that is refused has its number.
+    Lines(Vec<(u32, u8)>),
 }
 
 impl Answer {
     /// The number of a call.
-    pub fn number(self) -> Option<u8> {
-        match self {
+    pub fn number(&self) -> Option<u8> {
+        match *self {
             Answer::None => None,
             Answer::Number(number) | Answer::Amount(number, _) => Some(number),
+            Answer::Lines(_) => Some(0),
         }
     }
 }
@@ -358,6 +437,7 @@ impl fmt::Display for Answer {
             Answer::None => Ok(()),
             Answer::Number(number) => write!(f, " -> {number}"),
             Answer::Amount(number, amount) => write!(f, " -> {number} {amount}"),
+            Answer::Lines(_) => write!(f, " -> 0"),
         }
     }
 }
@@ -370,16 +450,21 @@ pub struct Host {
     ledger: Vec<u32>,
     table_length: usize,
     ledger_length: usize,
+    /// What the batches have left in the two lists that they are lent.
+    shares: Vec<u32>,
+    numbers: Vec<u8>,
 }
 
 impl Default for Host {
     fn default() -> Host {
         Host {
             register: Register::blank(0),
-            free: vec![UNUSED; TABLE_LENGTH + SPARE],
-            ledger: vec![UNUSED; LEDGER_LENGTH + SPARE],
+            free: vec![UNUSED.into(); TABLE_LENGTH + SPARE],
+            ledger: vec![UNUSED.into(); LEDGER_LENGTH + SPARE],
             table_length: TABLE_LENGTH,
             ledger_length: LEDGER_LENGTH,
+            shares: vec![UNUSED.into(); BATCH_SPACE],
+            numbers: vec![UNUSED; BATCH_SPACE],
         }
     }
 }
@@ -399,18 +484,23 @@ impl Host {
         register.is_in_order(&lent)
     }
 
-    pub fn run(&mut self, step: Step) -> Answer {
-        match step {
+    pub fn run(&mut self, step: &Step) -> Answer {
+        match *step {
             Step::Set(field, value) => self.set(field, value),
             Step::Repeat { lines } => self.repeat(lines),
+            Step::Batch {
+                ref batch,
+                shares,
+                numbers,
+            } => return self.confer(batch, shares.into(), numbers.into()),
             _ => return self.call(step),
         }
         Answer::None
     }
 
-    fn call(&mut self, step: Step) -> Answer {
+    fn call(&mut self, step: &Step) -> Answer {
         let (register, mut lent) = self.lend();
-        match step {
+        match *step {
             Step::Fresh { year } => number_of(register.renew(&mut lent, year)),
             Step::Open {
                 point,
@@ -426,7 +516,27 @@ impl Host {
             Step::Cession(cession) => amount_of(register.cede(&mut lent, cession)),
             Step::Held(holding) => short_day_of(register.first_short_day(lent.ledger, holding)),
             Step::Report { point, day } => amount_of(register.report(&lent, point, day)),
-            Step::Set(..) | Step::Repeat { .. } => Answer::None,
+            Step::Batch { .. } | Step::Set(..) | Step::Repeat { .. } => Answer::None,
+        }
+    }
+
+    /// A batch that is lent so much of the lists for shares and numbers.
+    fn confer(&mut self, batch: &Batch, shares: usize, numbers: usize) -> Answer {
+        let mut lent = Lent {
+            free: &mut self.free[..self.table_length],
+            ledger: &mut self.ledger[..self.ledger_length],
+        };
+        let lists = Lists {
+            shares: &mut self.shares[..shares],
+            numbers: &mut self.numbers[..numbers],
+        };
+        match self.register.confer(&mut lent, batch, lists) {
+            Ok(()) => {
+                let shares = self.shares.iter().copied();
+                let lines = shares.zip(self.numbers.iter().copied());
+                Answer::Lines(lines.take(batch.users.len()).collect())
+            }
+            Err(refusal) => Answer::Number(refusal.number()),
         }
     }
 
@@ -485,8 +595,8 @@ impl Host {
         }
     }
 
-    /// A number that changes with any single number of the register and of both
-    /// lists, whole.
+    /// A number that changes with any single number of the register, of both lists
+    /// and of the shares and numbers of batches, whole.
     pub fn digest(&self) -> u64 {
         let halves = |wide: u64| [wide & 0xffff_ffff, wide >> 32];
         let mut numbers: Vec<u64> = vec![self.register.year.into(), self.register.lines.into()];
@@ -500,6 +610,8 @@ impl Host {
         }
         numbers.extend(self.free.iter().copied().map(u64::from));
         numbers.extend(self.ledger.iter().copied().map(u64::from));
+        numbers.extend(self.shares.iter().copied().map(u64::from));
+        numbers.extend(self.numbers.iter().copied().map(u64::from));
 
         numbers.iter().fold(0, |digest, number| {
             (digest * DIGEST_FACTOR + number) % DIGEST_PRIME
@@ -527,8 +639,9 @@ fn short_day_of(day: Option<u16>) -> Answer {
 /// The whole script.
 pub fn steps() -> Vec<Step> {
     let mut host = Host::default();
-    let mut steps: Vec<Step> = by_hand::cases().iter().map(|case| case.step).collect();
-    for &step in &steps {
+    let cases = by_hand::cases().into_iter();
+    let mut steps: Vec<Step> = cases.map(|case| case.step).collect();
+    for step in &steps {
         host.run(step);
     }
     steps.extend(random::sequences(host).concat());
@@ -540,7 +653,7 @@ pub fn lines(steps: &[Step]) -> Vec<String> {
     let mut host = Host::default();
     (1..)
         .zip(steps)
-        .map(|(position, &step)| {
+        .map(|(position, step)| {
             let answer = host.run(step);
             format!("{position} {step}{answer} digest {}", host.digest())
         })

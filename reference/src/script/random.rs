@@ -3,8 +3,10 @@
 //!
 //! Every other sequence has calls only, with good and bad fields. The others
 //! also have writes: some leave the register in order, some damage it and are
-//! mostly repaired. Both kinds ask what users hold.
+//! mostly repaired. Both kinds ask what users hold. The last sequences of either
+//! kind have batches too, and more users on file.
 
+mod batches;
 mod cessions;
 mod damages;
 mod holdings;
@@ -14,10 +16,13 @@ use super::{Answer, Field, Host, Step};
 use crate::calendar::thermal_year;
 use crate::request::Span;
 
-/// How many sequences there are: enough that each answer is found as often as
-/// `tests/calls.rs` asks for, and hardly more, because the script and its answers
-/// are stored. 120 sequences would have fewer than the 400 cessions asked for.
-const SEQUENCES: usize = 130;
+/// How many sequences there are without batches: enough that, with those that have
+/// them, each answer is found as often as `tests/calls.rs` asks for, and hardly
+/// more, because the script and its answers are stored.
+const SEQUENCES: usize = 112;
+
+/// How many there are with batches: more than every other call is one.
+const SEQUENCES_WITH_BATCHES: usize = 30;
 
 /// How many steps a sequence has at least; repairs may follow, and holdings are
 /// put in. About seven of them make the register, points and users. As many
@@ -70,6 +75,7 @@ struct Sequence {
     numbers: Generator,
     host: Host,
     steps: Vec<Step>,
+    has_batches: bool,
     /// A month of the year, 1 for October, that is asked for more than others.
     busy_month: u8,
     /// The point and the days that were granted last.
@@ -84,11 +90,15 @@ pub fn sequences(host: Host) -> Vec<Vec<Step>> {
         numbers: Generator(SEED),
         host: host.clone(),
         steps: Vec::new(),
+        has_batches: false,
         busy_month: 1,
         granted: None,
         repairs: Vec::new(),
     };
-    let made = (0..SEQUENCES).map(|index| sequence.next(index % 2 == 1));
+    let made = (0..SEQUENCES + SEQUENCES_WITH_BATCHES).map(|index| {
+        sequence.has_batches = index >= SEQUENCES;
+        sequence.next(index % 2 == 1)
+    });
     holdings::put_in(host, made.collect())
 }
 
@@ -108,12 +118,20 @@ impl Sequence {
     }
 
     fn add(&mut self, step: Step) {
-        let answer = self.host.run(step);
-        self.steps.push(step);
-        if let (Step::Request(request), Answer::Amount(0, _)) = (step, answer) {
-            let span = request.span(self.host.register.year);
-            self.granted = span.map(|span| (request.point, span));
+        let answer = self.host.run(&step);
+        let year = self.host.register.year;
+        match (&step, answer) {
+            (Step::Request(request), Answer::Amount(0, _)) => {
+                let span = request.span(year);
+                self.granted = span.map(|span| (request.point, span));
+            }
+            (Step::Batch { batch, .. }, Answer::Lines(_)) => {
+                let span = thermal_year(year).map(|(first, last)| first..=last);
+                self.granted = span.map(|span| (batch.point, span));
+            }
+            _ => {}
         }
+        self.steps.push(step);
     }
 
     fn set(&mut self, field: Field, value: u64) {
@@ -133,7 +151,8 @@ impl Sequence {
         self.add(Step::Fresh { year });
         self.busy_month = 1 + self.numbers.below::<u8>(12);
         self.granted = None;
-        for _ in 0..2 + self.numbers.below::<u8>(3) {
+        let more = if self.has_batches { 3 } else { 0 };
+        for _ in 0..2 + more + self.numbers.below::<u8>(3) {
             let (point, kind, total, rate) = self.good_opening();
             self.add(Step::Open {
                 point,
@@ -148,9 +167,29 @@ impl Sequence {
             let guarantee = self.good_guarantee();
             self.add(Step::Place { user, guarantee });
         }
+        if self.has_batches {
+            self.place_more();
+        }
+    }
+
+    /// Puts more users on file, so that batches can have several lines.
+    fn place_more(&mut self) {
+        let first = self.numbers.pick(&[1, 21, 40, 50]);
+        let end = first + self.numbers.pick(&[3, 5, 8, 11]);
+        for user in first..end {
+            let guarantee = self.good_guarantee();
+            self.add(Step::Place { user, guarantee });
+        }
     }
 
     fn call(&mut self) {
+        if self.has_batches {
+            match self.numbers.below::<u8>(100) {
+                0..=4 => return self.turn(),
+                5..=59 => return self.batch(),
+                _ => {}
+            }
+        }
         match self.numbers.below::<u8>(100) {
             0..=3 => self.open(),
             4..=9 => self.place(),
@@ -173,6 +212,10 @@ impl Sequence {
         let is_in_order = self.host.is_in_order();
         if !is_in_order && self.numbers.in_hundred(35) {
             return self.repair();
+        }
+        let has_lines = self.host.register.lines > 0;
+        if self.has_batches && is_in_order && has_lines && self.numbers.in_hundred(6) {
+            return self.batch_at_full_ledger();
         }
         match self.numbers.below::<u8>(100) {
             0..=8 if is_in_order => self.change_in_order(),

@@ -1,8 +1,10 @@
-//! What the tests of the register, of the request and of the cession share.
+//! What the tests of the register, of the request, of the batch and of the cession
+//! share.
 
 // None uses all of it.
 #![allow(dead_code)]
 
+use reference::batch::{Batch, Lists};
 use reference::cession::Cession;
 use reference::register::*;
 use reference::request::Request;
@@ -66,6 +68,19 @@ impl Books {
     pub fn request(&mut self, request: Request) -> Result<u32, Refusal> {
         let (register, mut lent) = self.lend();
         register.request(&mut lent, request)
+    }
+
+    /// The share and the number of each line; the lists hold other numbers before.
+    pub fn confer(&mut self, batch: &Batch) -> Result<Vec<(u32, u8)>, Refusal> {
+        let mut shares = vec![9; batch.users.len()];
+        let mut numbers = vec![9; batch.users.len()];
+        let lists = Lists {
+            shares: &mut shares,
+            numbers: &mut numbers,
+        };
+        let (register, mut lent) = self.lend();
+        register.confer(&mut lent, batch, lists)?;
+        Ok(shares.into_iter().zip(numbers).collect())
     }
 
     pub fn cede(&mut self, cession: Cession) -> Result<u32, Refusal> {

@@ -5,10 +5,10 @@ use Rattle.calls.proofs.main.Statement.{statement}
 use Rattle.calls.proofs.main.Tie as tie
 
 abbrev Inv-loop : tie.InvT-loop
-Inv-loop free₀ ledger₀ record₀ host₀ position₀ free ledger «record» host position = position ≤ 100001
+Inv-loop free₀ ledger₀ users₀ asked₀ shares₀ numbers₀ record₀ host₀ position₀ free ledger users asked shares numbers «record» host position = position ≤ 100001
 
 abbrev μ-loop : tie.MeasureT-loop
-μ-loop free₀ ledger₀ record₀ host₀ position₀ free ledger «record» host position = 100001 - position
+μ-loop free₀ ledger₀ users₀ asked₀ shares₀ numbers₀ record₀ host₀ position₀ free ledger users asked shares numbers «record» host position = 100001 - position
 
 start-requires : tie.Need-start-requires Inv-loop μ-loop
 start-requires c κs = search needs
@@ -18,9 +18,6 @@ loop-holds c = search needs
 
 read-record-requires : tie.Need-read-record-requires Inv-loop μ-loop
 read-record-requires c κs = search needs
-
-step-of-requires : tie.Need-step-of-requires Inv-loop μ-loop
-step-of-requires c κs = search needs
 
 run-and-print-requires : tie.Need-run-and-print-requires Inv-loop μ-loop
 run-and-print-requires c κs = search needs
@@ -49,7 +46,6 @@ main-spec =
     start-requires
     loop-holds
     read-record-requires
-    step-of-requires
     run-and-print-requires
     add-position
     loop-less

@@ -24,7 +24,7 @@ pub(super) fn put_in(mut host: Host, sequences: Vec<Vec<Step>>) -> Vec<Vec<Step>
     let mut with_holdings = |sequence: Vec<Step>| {
         let mut steps = Vec::new();
         for step in sequence {
-            host.run(step);
+            host.run(&step);
             steps.push(step);
             let chances = match host.register.lines {
                 0 => CHANCES_WITHOUT_LINES,

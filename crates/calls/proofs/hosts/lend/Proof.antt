@@ -18,7 +18,7 @@ slice-aggregate-run-call c =
     sym
     (length-take-le
     (c .before .before .least .result)
-    (c .before .before .before .before .before .args .free .now)
+    (c .before .before .before .before .before .before .before .before .before .args .free .now)
     (c .before .before .least .ensures))
 
 slice-relend-prefix-run-call-2 : tie.Need-slice-relend-prefix-run-call-2
@@ -29,7 +29,7 @@ slice-aggregate-run-call-2 c =
     sym
     (length-take-le
     (c .before .before .least2 .result)
-    (c .before .before .before .before .before .before .args .ledger .now)
+    (c .before .before .before .before .before .before .before .before .before .before .args .ledger .now)
     (c .before .before .least2 .ensures))
 
 run-call-requires : tie.Need-run-call-requires
@@ -40,6 +40,12 @@ same-length c = search needs
 
 same-length-2 : tie.Need-same-length-2
 same-length-2 c = search needs
+
+same-length-3 : tie.Need-same-length-3
+same-length-3 c = search needs
+
+same-length-4 : tie.Need-same-length-4
+same-length-4 c = search needs
 
 returns : tie.Need-returns
 returns c = search needs
@@ -57,4 +63,6 @@ lend-spec =
     run-call-requires
     same-length
     same-length-2
+    same-length-3
+    same-length-4
     returns)
