@@ -10,13 +10,16 @@ use Rattle.calendar.specs.ThermalYears.{inThermalYear}
 use Rattle.parts.specs.declared.accounts.Account.{Account}
 use Rattle.parts.specs.Limits.{userCount, lineCount}
 use Rattle.parts.specs.Registers.{State, pointAt, accountAt, absentUser}
-use Rattle.parts.specs.Amounts.{freeOn}
+use Rattle.parts.specs.Amounts.{spanDays, freeOn}
 use Rattle.parts.specs.Charges.{charge}
 use Rattle.parts.specs.Points.{isOpen}
 use Rattle.parts.specs.Accounts.{isOnFile}
 use Rattle.register.specs.Order.{inOrder}
 use Rattle.register.proofs.OrderFacts.{ordered, Absent, OnFile, account-is}
-use Rattle.history.specs.Reckoning.{Reckoning, freeBy}
+use Rattle.conferral.specs.Spans.{annualFirst, annualLast}
+use Rattle.cessions.specs.declared.ceding.Cession.{Cession}
+use Rattle.cessions.specs.CedeCapacity.{chargeOf}
+use Rattle.history.specs.Reckoning.{Reckoning, freeBy, cededCharge}
 use Rattle.history.specs.Reasons.{Covered, LinesLeft, Uncovered, LinesShort}
 use Rattle.history.proofs.Agreement.{Agree, at-each}
 
@@ -36,6 +39,10 @@ module _ (s : State) (k : Reckoning) (w : Agree s k) where
   -- a charge at the point's rate, where its days are told by the year
   pub charge-by : (a p : ℕ) (days : ℕ → ℕ) → charge a (days (s .register .year)) (pointAt (s .register .points) p .rate) ≡ charge a (days (k .year)) (k .rate p)
   charge-by a p days = ap₂ (λ (y r : ℕ). charge a (days y) r) (w .year) (w .rate p)
+
+  -- the charge of a cession
+  pub charge-ceded : (c : Cession) → chargeOf (s .register) c ≡ cededCharge k c
+  charge-ceded c = charge-by (c .amount) (c .point) (λ (y : ℕ). spanDays (annualFirst (c .arrival)) (annualLast y))
 
   -- what the guarantee does not cover
   pub uncovered : (u c d : ℕ) → accountAt (s .register .accounts) u .guarantee < accountAt (s .register .accounts) u .commitment + c

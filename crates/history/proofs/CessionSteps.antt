@@ -11,17 +11,16 @@ use borrow.Author.Tests.{eqb-true, eqb-false}
 use Rattle.parts.specs.declared.points.Point.{Point}
 use Rattle.parts.specs.declared.accounts.Account.{Account}
 use Rattle.parts.specs.Registers.{State, pointAt, accountAt}
-use Rattle.parts.specs.Amounts.{spanDays, entryOf, freeOn}
+use Rattle.parts.specs.Amounts.{entryOf, freeOn}
 use Rattle.parts.specs.Points.{isOpen}
-use Rattle.parts.specs.Charges.{charge}
-use Rattle.conferral.specs.Spans.{annualLast}
 use Rattle.cessions.specs.declared.ceding.Cession.{Cession}
-use Rattle.cessions.specs.CedeCapacity.{spanFirst, chargeOf, cessionNumber, cessionAfter}
+use Rattle.cessions.specs.CedeCapacity.{chargeOf, cessionNumber, cessionAfter}
 use Rattle.cessions.proofs.AnswerLaws.{facts}
 use Rattle.cessions.proofs.CededLaws.{CededIn, cession-ceded}
 use Rattle.history.specs.Reckoning.{Reckoning, charges, cededBy, cededCharge, grantedOn, entered}
 use Rattle.history.specs.Calls.{cedeCapacity, answer}
 use Rattle.history.proofs.Agreement.{Agree}
+use Rattle.history.proofs.AgreedLaws.{charge-ceded}
 
 module _ (s : State) (k : Reckoning) (c : Cession) (a : Agree s k) (z : cessionNumber s c ≡ 0) where
   abbrev t : State
@@ -31,10 +30,8 @@ module _ (s : State) (k : Reckoning) (c : Cession) (a : Agree s k) (z : cessionN
   b = cession-ceded s c (a .sound) z
 
   -- the charge is the same by the register and by the reckoning
-  pub same-charge : chargeOf (s .register) c ≡ cededCharge k c
-  same-charge =
-      ap (λ (y : ℕ). charge (c .amount) (spanDays (spanFirst c) (annualLast y)) (pointAt (s .register .points) (c .point) .rate)) (a .year)
-      ∙ ap (charge (c .amount) (spanDays (spanFirst c) (annualLast (k .year)))) (a .rate (c .point))
+  same-charge : chargeOf (s .register) c ≡ cededCharge k c
+  same-charge = charge-ceded s k a c
 
   apart : c .giver ≡ c .receiver → ⊥
   apart = facts s c z .fields .apart

@@ -7,7 +7,6 @@ use Prim.Native.Nat.{ℕ}
 use native.Mathlib.Omega.{arith}
 use Rattle.parts.specs.Registers.{State}
 use Rattle.parts.specs.Accounts.{isOnFile}
-use Rattle.parts.specs.Amounts.{spanDays}
 use Rattle.conferral.specs.Spans.{annualFirst, annualLast, spanOk}
 use Rattle.cessions.specs.declared.ceding.Cession.{Cession}
 use Rattle.cessions.specs.CedeCapacity.{giverOf, receiverOf, bothOnFile, isInYear, chargeOf, cessionQuestions, cessionNumber}
@@ -20,12 +19,9 @@ use Rattle.history.specs.Demand3.{Treated}
 use Rattle.history.proofs.Agreement.{Agree}
 use Rattle.history.proofs.NumberLaws.{among}
 use Rattle.history.proofs.Backing.{Backed, never-below}
-use Rattle.history.proofs.AgreedLaws.{open-by, charge-by, covered, uncovered, unfiled, lines-left, lines-short}
+use Rattle.history.proofs.AgreedLaws.{open-by, charge-ceded, covered, uncovered, unfiled, lines-left, lines-short}
 
 module _ (s : State) (k : Reckoning) (w : Agree s k) (backed : Backed s) (c : Cession) where
-  charge-ceded : chargeOf (s .register) c ≡ cededCharge k c
-  charge-ceded = charge-by s k w (c .amount) (c .point) (λ (y : ℕ). spanDays (annualFirst (c .arrival)) (annualLast y))
-
   -- one of the two is not on file
   unfiled-either : bothOnFile (s .register) c ≡ false → (k .guarantee (c .giver) ≡ 0) ⊎ (k .guarantee (c .receiver) ≡ 0)
   unfiled-either h = go (isOnFile (giverOf (s .register) c)) refl h
@@ -47,7 +43,7 @@ module _ (s : State) (k : Reckoning) (w : Agree s k) (backed : Backed s) (c : Ce
         three = open-by s k w (c .point) true (a .1 .1 .0);
         eight = span-by (f .in-year);
         nine = f .in-time;
-        eleven = covered s k w (c .receiver) (chargeOf (s .register) c) (cededCharge k c) (f .covered) charge-ceded;
+        eleven = covered s k w (c .receiver) (chargeOf (s .register) c) (cededCharge k c) (f .covered) (charge-ceded s k w c);
         thirteen = lines-left s k w 2 (f .lines);
       }
 
@@ -69,7 +65,7 @@ module _ (s : State) (k : Reckoning) (w : Agree s k) (backed : Backed s) (c : Ce
               five = λ h. unfiled-either (refused-by s c 3 refl (omega arith) h .1 .1 .1);
               eight = λ h. span-by (refused-by s c 4 refl (omega arith) h .1 .1 .1 .1);
               nine = λ h. refused-by s c 5 refl (omega arith) h .1 .1 .1 .1 .1;
-              eleven = λ h. uncovered s k w (c .receiver) (chargeOf (s .register) c) (cededCharge k c) (not-covered s c h) charge-ceded;
+              eleven = λ h. uncovered s k w (c .receiver) (chargeOf (s .register) c) (cededCharge k c) (not-covered s c h) (charge-ceded s k w c);
               thirteen = λ h. lines-short s k w 2 (ledger-full s c h);
             };
       }

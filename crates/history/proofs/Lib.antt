@@ -1,5 +1,6 @@
 pub mod CallLaws
 pub mod Agreement
+pub mod AgreedLaws
 pub mod GrantSteps
 pub mod FilingSteps
 pub mod CessionSteps
@@ -9,7 +10,6 @@ pub mod BackingSums
 pub mod Backing
 pub mod BackingSteps
 pub mod BackedCalls
-pub mod AgreedLaws
 pub mod NumberLaws
 pub mod FilingTreatment
 pub mod RequestTreatment
