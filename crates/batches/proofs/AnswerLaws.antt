@@ -6,8 +6,8 @@ use Prim.Native.Nat.{ℕ, _+_, _≤_, _<_}
 use lib.Dec.{ltb, eqb}
 use lib.ListN.{length}
 use borrow.Author.Tests.{ltb-true, leb-true, eqb-true}
-use Rattle.calendar.specs.Days.{between}
-use Rattle.calendar.proofs.Ranges.{and-left, and-right, Within, within}
+use Rattle.days.specs.Days.{between}
+use Rattle.days.proofs.Ranges.{and-left, and-right, Within, within}
 use Rattle.parts.specs.Limits.{pointCount, lineCount}
 use Rattle.parts.specs.Registers.{State, pointAt}
 use Rattle.parts.specs.Answers.{Passes}

@@ -9,9 +9,9 @@ use native.Mathlib.Omega.{arith}
 use lib.Dec.{ltb, eqb}
 use lib.ListN.{getD, length}
 use borrow.Author.Tests.{ltb-true, lt-leb, le-leb, eqb-true, eq-eqb, ne-eqb}
-use Rattle.calendar.specs.Days.{between}
+use Rattle.days.specs.Days.{between}
 use Rattle.calendar.specs.ThermalYears.{isThermalYear}
-use Rattle.calendar.proofs.Ranges.{and-left, and-right, Within, within}
+use Rattle.days.proofs.Ranges.{and-left, and-right, Within, within}
 use Rattle.parts.specs.declared.registers.Register.{Register}
 use Rattle.parts.specs.Limits.{pointCount, userCount, lineCount, mostAmount}
 use Rattle.parts.specs.Ranges.{replaced, sumBelow}

@@ -11,9 +11,9 @@ use lib.Dec.{leb, ltb, eqb}
 use lib.ListN.{getD, length, replicate, length-replicate}
 use lib.Seq.{ext-getD}
 use borrow.Author.Tests.{ltb-true, leb-true, leb-false, eqb-true, not-true, le-leb, lt-leb, eq-eqb}
-use Rattle.calendar.specs.Days.{between}
+use Rattle.days.specs.Days.{between}
 use Rattle.calendar.specs.ThermalYears.{isThermalYear, inThermalYear, thermalFirst}
-use Rattle.calendar.proofs.Ranges.{and-left, and-right, cond-le, Within, within}
+use Rattle.days.proofs.Ranges.{and-left, and-right, cond-le, Within, within}
 use Rattle.parts.specs.declared.registers.Register.{Register}
 use Rattle.parts.specs.Limits.{userCount, mostAmount}
 use Rattle.parts.specs.Ranges.{replaced, sumBelow}

@@ -5,7 +5,7 @@ use mathlib.Core.Bool.{Bool, not, _&&_}
 use mathlib.Core.List.{List, [], _∷_}
 use lib.Dec.{ltb, eqb}
 use lib.ListN.{getD, length}
-use Rattle.calendar.specs.Days.{between}
+use Rattle.days.specs.Days.{between}
 use Rattle.calendar.specs.ThermalYears.{thermalFirst, thermalLast}
 use Rattle.parts.specs.declared.accounts.Account.{Account}
 use Rattle.parts.specs.declared.registers.Register.{Register}

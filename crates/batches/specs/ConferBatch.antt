@@ -5,7 +5,7 @@ use mathlib.Core.Bool.{Bool, cond, _&&_}
 use mathlib.Core.List.{List, [], _∷_}
 use lib.Dec.{ltb, eqb}
 use lib.ListN.{length}
-use Rattle.calendar.specs.Days.{between}
+use Rattle.days.specs.Days.{between}
 use Rattle.parts.specs.Limits.{pointCount}
 use Rattle.parts.specs.Registers.{State, pointAt}
 use Rattle.parts.specs.Points.{isOpen}

@@ -1,19 +1,18 @@
--- Laws of the answers: what a moved date is, and how the answer on an arrival is put together from its deadline.
+-- Laws of the answers: how the answer on an arrival is put together from its deadline.
 -- Assumes nothing.
 use Prim.Native.Nat.{ℕ, _≤_, _<_}
 use mathlib.Core.Bool.{Bool, true, false, cond, _&&_}
 use mathlib.Core.Path.{_≡_, refl}
 use lib.Dec.{leb}
 use borrow.Author.Tests.{le-leb, lt-leb}
-use Rattle.calendar.specs.declared.dates.Date.{Date}
-use Rattle.calendar.specs.declared.dates.CalendarDate.the-variants.{On, OutsideCalendar as NoDate}
-use Rattle.calendar.specs.declared.dates.GasDay.the-variants.{Day, OutsideCalendar as NoDay}
+use Rattle.days.specs.declared.dates.GasDay.the-variants.{Day, OutsideCalendar as NoDay}
 use Rattle.calendar.specs.declared.deadlines.Timeliness.the-variants.{InTime, Late, OutsideCalendar as NoDeadline}
-use Rattle.calendar.specs.Days.{lastDay, between, isMonth, dateOf, yearBefore, monthBefore, dayAfter, movesOn}
+use Rattle.days.specs.Days.{lastDay, between, isMonth, dateOf, yearBefore, monthBefore}
 use Rattle.calendar.specs.ThermalYears.{isThermalMonth, calendarYear, calendarMonth}
 use Rattle.calendar.specs.Deadlines.{ownDeadline, precedingDeadline}
-use Rattle.calendar.specs.Answers.{nextDateAnswer, moveNumber, movedDate, nthAnswer, precedingDay, timely, ownAnswer, precedingAnswer}
-use Rattle.calendar.proofs.Ranges.{month-of-test, is-month}
+use Rattle.working_days.specs.Answers.{nthAnswer}
+use Rattle.calendar.specs.Answers.{precedingDay, timely, ownAnswer, precedingAnswer}
+use Rattle.days.proofs.Ranges.{month-of-test, is-month}
 use Rattle.calendar.proofs.DeadlineLaws.{own-month, preceding-month}
 
 -- an arrival is compared with a deadline that a test lets stand
@@ -46,13 +45,3 @@ unfolding nthAnswer precedingDay precedingDeadline
 preceding-day y k n x m t p q =
     let w : isMonth x m ≡ true = rw (p, q) at (is-month _ _ (preceding-month y k (month-of-test 2098 y k t))) in
     rw (t, p, q, w)
-
--- "moved on by one gas-day [..] with the answer 0; 31 December 2099, a date outside the calendar and one that doesn't exist are left,
--- with the answer 2"
-pub moved : (d : Date) → (moveNumber (nextDateAnswer d) ≡ cond (movesOn d) 0 2) × (movedDate d (nextDateAnswer d) ≡ cond (movesOn d) (dayAfter d) d)
-unfolding nextDateAnswer
-moved d = go (movesOn d)
-  where
-    go : (b : Bool) → (moveNumber (cond b (On (dayAfter d)) NoDate) ≡ cond b 0 2) × (movedDate d (cond b (On (dayAfter d)) NoDate) ≡ cond b (dayAfter d) d)
-    go true = (refl, refl)
-    go false = (refl, refl)

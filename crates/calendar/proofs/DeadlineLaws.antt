@@ -6,12 +6,12 @@ use mathlib.Core.Path.{_≡_, refl, sym, ap, _∙_}
 use native.Mathlib.Omega.{arith}
 use lib.Dec.{ltb, leb}
 use borrow.Author.Tests.{ltb-true, ltb-false, lt-ltb, le-ltb, leb-true, leb-false}
-use Rattle.calendar.specs.Days.{lastDay, monthLength, daysBefore, monthStart, dayNumber, date, dateFrom, yearOf, dateOf, yearAfter, monthAfter, yearBefore, monthBefore}
+use Rattle.days.specs.Days.{lastDay, monthLength, daysBefore, monthStart, dayNumber, date, dateFrom, yearOf, dateOf, yearAfter, monthAfter, yearBefore, monthBefore}
 use Rattle.calendar.specs.ThermalYears.{thermalFirst, thermalLast, calendarYear, calendarMonth, thermalMonthFirst}
 use Rattle.calendar.specs.Deadlines.{nextFirst, ownDeadline, precedingDeadline}
-use Rattle.calendar.proofs.Ranges.{Within, Month, ThermalMonth, Valid, le-cond}
-use Rattle.calendar.proofs.DateLaws.{day-date, date-valid, date-year-last, month-least, month-most, month-next, month-mono, month-after, month-of, january, year-end}
-use Rattle.calendar.proofs.WorkingDayLaws.{NthWorkingDay, nth-working-day}
+use Rattle.days.proofs.Ranges.{Within, Month, ThermalMonth, Valid, le-cond}
+use Rattle.days.proofs.DateLaws.{day-date, date-valid, date-year-last, month-least, month-most, month-next, month-mono, month-after, month-of, january, year-end}
+use Rattle.working_days.proofs.WorkingDayLaws.{NthWorkingDay, nth-working-day}
 use Rattle.calendar.proofs.ThermalYearLaws.{thermal-next, from-january, calendar-month}
 
 -- the month of a day of the calendar

@@ -1,7 +1,3 @@
-pub mod Every
-pub mod Ranges
-pub mod DateLaws
-pub mod WorkingDayLaws
 pub mod ThermalYearLaws
 pub mod DeadlineLaws
 pub mod AnswerLaws

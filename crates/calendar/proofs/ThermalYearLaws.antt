@@ -6,10 +6,10 @@ use mathlib.Core.Path.{_≡_, refl, ap}
 use native.Mathlib.Omega.{arith}
 use lib.Dec.{leb}
 use borrow.Author.Tests.{leb-true, leb-false, le-leb, lt-leb}
-use Rattle.calendar.specs.Days.{lastDay, leap, monthLength, daysBefore, yearStart, monthStart}
+use Rattle.days.specs.Days.{lastDay, leap, monthLength, daysBefore, yearStart, monthStart}
 use Rattle.calendar.specs.ThermalYears.{thermalFirst, thermalLast, calendarYear, calendarMonth, thermalMonthFirst, thermalMonthLast}
-use Rattle.calendar.proofs.Ranges.{Within, Month, ThermalMonth, le-cond}
-use Rattle.calendar.proofs.DateLaws.{month-least, month-next, month-mono, month-after, january, year-end, year-next}
+use Rattle.days.proofs.Ranges.{Within, Month, ThermalMonth, le-cond}
+use Rattle.days.proofs.DateLaws.{month-least, month-next, month-mono, month-after, january, year-end, year-next}
 
 september : (y : ℕ) → monthLength y 9 ≡ 30
 unfolding monthLength

@@ -1,48 +1,18 @@
--- What each public function of the calendar answers. Input outside the calendar has a case of its own, `OutsideCalendar`, and
--- so no function answers it with a wrong date.
+-- What each public function of thermal years and of deadlines answers. Input outside the calendar has a case of its own,
+-- `OutsideCalendar`, and so no function answers it with a wrong date.
 -- Assumes nothing.
 use Prim.Native.Nat.{ℕ}
 use mathlib.Core.Bool.{cond, _&&_}
 use lib.Dec.{leb}
-use Rattle.calendar.specs.declared.dates.Date.{Date}
-use Rattle.calendar.specs.declared.dates.GasDay.{GasDay}
-use Rattle.calendar.specs.declared.dates.GasDay.the-variants.{Day, OutsideCalendar as NoDay}
-use Rattle.calendar.specs.declared.dates.CalendarDate.{CalendarDate}
-use Rattle.calendar.specs.declared.dates.CalendarDate.the-variants.{On, OutsideCalendar as NoDate}
+use Rattle.days.specs.declared.dates.GasDay.{GasDay}
+use Rattle.days.specs.declared.dates.GasDay.the-variants.{Day, OutsideCalendar as NoDay}
 use Rattle.calendar.specs.declared.thermal_years.Span.{Span}
 use Rattle.calendar.specs.declared.thermal_years.Span.the-variants.{Days, OutsideCalendar as NoSpan}
-use Rattle.calendar.specs.declared.working_days.DayType.{DayType}
-use Rattle.calendar.specs.declared.working_days.DayType.the-variants.{Working, NonWorking, OutsideCalendar as NoType}
-use Rattle.calendar.specs.declared.working_days.DayCount.{DayCount}
-use Rattle.calendar.specs.declared.working_days.DayCount.the-variants.{Count, OutsideCalendar as NoCount}
 use Rattle.calendar.specs.declared.deadlines.Timeliness.{Timeliness}
 use Rattle.calendar.specs.declared.deadlines.Timeliness.the-variants.{InTime, Late, OutsideCalendar as NoDeadline}
-use Rattle.calendar.specs.Days.{between, inCalendar, isYear, isMonth, isDate, monthLength, monthStart, dayNumber, dateOf, dayOf, dayAfter, movesOn}
+use Rattle.days.specs.Days.{between, inCalendar, isMonth, monthLength, monthStart, dayNumber}
 use Rattle.calendar.specs.ThermalYears.{isThermalYear, isThermalMonth, thermalFirst, thermalLast, thermalMonthFirst, thermalMonthLast}
-use Rattle.calendar.specs.WorkingDays.{easterSunday, workingDay, workingCount, nthWorkingDay}
 use Rattle.calendar.specs.Deadlines.{nextFirst, precedingDeadline, inTimeOwn, inTimePreceding}
-
--- the date of a day
-unfoldable pub dateAnswer : ℕ → CalendarDate
-dateAnswer n = cond (inCalendar n) (On (dateOf n)) NoDate
-
--- the day of a date that exists
-unfoldable pub dayAnswer : Date → GasDay
-dayAnswer d = cond (isDate d) (Day (dayOf d)) NoDay
-
--- the date that follows a date, where the date is moved on
-unfoldable pub nextDateAnswer : Date → CalendarDate
-nextDateAnswer d = cond (movesOn d) (On (dayAfter d)) NoDate
-
--- what that answer means for a date lent by the host: the number, "with the answer 0 [..] are left, with the answer 2", and the
--- date that the record holds afterwards
-abbrev pub moveNumber : CalendarDate → ℕ
-moveNumber (On e) = 0
-moveNumber NoDate = 2
-
-abbrev pub movedDate : Date → CalendarDate → Date
-movedDate d (On e) = e
-movedDate d NoDate = d
 
 -- the day with a number, where the calendar has it
 unfoldable pub dayIn : ℕ → GasDay
@@ -52,22 +22,6 @@ dayIn n = cond (inCalendar n) (Day n) NoDay
 -- `next-out`)
 unfoldable pub nextFirstAnswer : ℕ → GasDay
 nextFirstAnswer a = dayIn (nextFirst a)
-
--- Easter Sunday of a year
-unfoldable pub easterAnswer : ℕ → GasDay
-easterAnswer y = cond (isYear y) (Day (easterSunday y)) NoDay
-
--- whether a day is a working day
-unfoldable pub typeAnswer : ℕ → DayType
-typeAnswer n = cond (inCalendar n) (cond (workingDay n) Working NonWorking) NoType
-
--- how many working days a month has
-unfoldable pub countAnswer : ℕ → ℕ → DayCount
-countAnswer y m = cond (isMonth y m) (Count (workingCount y m)) NoCount
-
--- the 1st to the 18th working day of a month
-unfoldable pub nthAnswer : ℕ → ℕ → ℕ → GasDay
-nthAnswer y m n = cond (isMonth y m && between 1 18 n) (Day (nthWorkingDay y m n)) NoDay
 
 -- the first and the last day of a thermal year
 unfoldable pub yearAnswer : ℕ → Span

@@ -4,9 +4,9 @@
 use Prim.Native.Nat.{ℕ}
 use mathlib.Core.Bool.{Bool}
 use lib.Dec.{leb}
-use Rattle.calendar.specs.Days.{monthStart, dateOf, yearAfter, monthAfter, yearBefore, monthBefore}
+use Rattle.days.specs.Days.{monthStart, dateOf, yearAfter, monthAfter, yearBefore, monthBefore}
 use Rattle.calendar.specs.ThermalYears.{calendarYear, calendarMonth}
-use Rattle.calendar.specs.WorkingDays.{nthWorkingDay}
+use Rattle.working_days.specs.WorkingDays.{nthWorkingDay}
 
 -- "the first of the month after arrival"
 unfoldable pub nextFirst : ℕ → ℕ

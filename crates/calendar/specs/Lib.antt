@@ -1,5 +1,3 @@
-pub mod Days
 pub mod ThermalYears
-pub mod WorkingDays
 pub mod Deadlines
 pub mod Answers

@@ -4,7 +4,7 @@ use Prim.Native.Nat.{ℕ, _+_, _-_}
 use mathlib.Core.Path.{_≡_}
 use mathlib.Core.Bool.{Bool, true, cond, _&&_}
 use lib.Dec.{leb}
-use Rattle.calendar.specs.Days.{between, monthLength, monthStart, dayNumber}
+use Rattle.days.specs.Days.{between, monthLength, monthStart, dayNumber}
 
 -- "Thermal year Y (2000 to 2098)"
 abbrev pub isThermalYear : ℕ → Bool

@@ -1,12 +1,12 @@
 // The first of the next month, and arrivals in time.
 ghost use mathlib.Core.Path.{_≡_};
 ghost use Rattle.calendar.specs.Answers.{dayIn, nextFirstAnswer, precedingDay, timely, ownAnswer, precedingAnswer};
-use crate::dates::GasDay;
-use crate::dates::LAST_DAY;
-use crate::dates::date_at;
-use crate::dates::month_start;
 use crate::thermal_years::is_thermal_month;
-use crate::working_days::nth_working_day;
+use days::GasDay;
+use days::LAST_DAY;
+use days::date_at;
+use days::month_start;
+use working_days::nth_working_day;
 
 // Whether an arrival is in time.
 pub enum Timeliness {

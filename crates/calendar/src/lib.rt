@@ -1,19 +1,17 @@
-// The calendar of the register: gas-days from 1 January 2000, day 0, to 31 December 2099, day 36,524, working days and
-// holidays, thermal years and the deadlines that are working days.
+// The calendar of the register: thermal years and the deadlines that are working days. The types and functions of gas-days and of
+// working days are passed on, so that a caller names one crate.
 //
 // No function that another crate can name has a `requires`. Input outside the calendar is answered with the case
 // `OutsideCalendar`. The meaning of each answer is in specs/, and proofs/ has the laws that callers cite.
-mod dates;
 mod deadlines;
 mod thermal_years;
-mod working_days;
 
-pub use dates::CalendarDate;
-pub use dates::Date;
-pub use dates::GasDay;
-pub use dates::date_of;
-pub use dates::day_of;
-pub use dates::next_date;
+pub use days::CalendarDate;
+pub use days::Date;
+pub use days::GasDay;
+pub use days::date_of;
+pub use days::day_of;
+pub use days::next_date;
 pub use deadlines::Timeliness;
 pub use deadlines::in_time_own_month;
 pub use deadlines::in_time_preceding_month;

@@ -2,10 +2,10 @@
 ghost use mathlib.Core.Path.{_≡_};
 ghost use Rattle.calendar.specs.ThermalYears.{isThermalYear, inThermalYear, isThermalMonth};
 ghost use Rattle.calendar.specs.Answers.{spanOfMonth, yearAnswer, monthAnswer};
-use crate::dates::day_number;
-use crate::dates::is_month;
-use crate::dates::month_length;
-use crate::dates::month_start;
+use days::day_number;
+use days::is_month;
+use days::month_length;
+use days::month_start;
 
 // The first and the last day of a span.
 pub enum Span {

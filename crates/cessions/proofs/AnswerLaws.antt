@@ -8,7 +8,7 @@ use Prim.Native.Nat.{ℕ, _+_, _≤_, _<_}
 use native.Mathlib.Omega.{arith}
 use lib.IntN.{pos, negℤ}
 use borrow.Author.Tests.{ltb-true, leb-true, eqb-true}
-use Rattle.calendar.proofs.Ranges.{and-left, and-right}
+use Rattle.days.proofs.Ranges.{and-left, and-right}
 use Rattle.parts.specs.declared.answers.Refusal.{Refusal}
 use Rattle.register.specs.declared.ledger.Line.{Line}
 use Rattle.parts.specs.declared.registers.Register.{Register}

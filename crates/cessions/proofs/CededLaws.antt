@@ -13,7 +13,7 @@ use borrow.Author.Tests.{le-leb}
 use mir.Syntax.{w32}
 use mir.Val.{SFits, toZ, ofZ}
 use mir.Facts.{toZ-ofZ, toZ-pos}
-use Rattle.calendar.proofs.Ranges.{both}
+use Rattle.days.proofs.Ranges.{both}
 use Rattle.parts.specs.declared.points.Point.{Point}
 use Rattle.parts.specs.declared.accounts.Account.{Account}
 use Rattle.register.specs.declared.ledger.Line.{Line}

@@ -7,8 +7,8 @@ use Prim.Native.Nat.{ℕ, _<_}
 use lib.Dec.{ltb, eqb}
 use borrow.Author.Tests.{ltb-true, eqb-false, not-true}
 use Rattle.calendar.specs.declared.thermal_years.Span.the-variants.{Days, OutsideCalendar}
-use Rattle.calendar.specs.Days.{between}
-use Rattle.calendar.proofs.Ranges.{and-left, and-right, Within, within}
+use Rattle.days.specs.Days.{between}
+use Rattle.days.proofs.Ranges.{and-left, and-right, Within, within}
 use Rattle.calendar.proofs.SpanLaws.{chosen, unchosen}
 use Rattle.parts.specs.declared.accounts.Account.{Account}
 use Rattle.parts.specs.declared.registers.Register.{Register}

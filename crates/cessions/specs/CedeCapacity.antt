@@ -5,7 +5,7 @@ use mathlib.Core.Bool.{Bool, not, _&&_}
 use mathlib.Core.List.{List, [], _∷_}
 use lib.Dec.{leb, ltb, eqb}
 use lib.IntN.{ℤ, pos, negℤ}
-use Rattle.calendar.specs.Days.{between}
+use Rattle.days.specs.Days.{between}
 use Rattle.calendar.specs.Deadlines.{inTimeOwn}
 use Rattle.parts.specs.declared.points.Point.{Point}
 use Rattle.parts.specs.declared.accounts.Account.{Account}

@@ -12,7 +12,7 @@ use lib.ListN.{getD, length, length-set}
 use mir.Syntax.{w32}
 use mir.Val.{SFits}
 use Rattle.calendar.specs.ThermalYears.{inThermalYear, thermalFirst}
-use Rattle.calendar.proofs.Ranges.{is-between}
+use Rattle.days.proofs.Ranges.{is-between}
 use Rattle.parts.specs.declared.points.Point.{Point}
 use Rattle.parts.specs.declared.accounts.Account.{Account}
 use Rattle.register.specs.declared.ledger.Line.{Line}

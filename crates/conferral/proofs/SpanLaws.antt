@@ -7,13 +7,13 @@ use native.Mathlib.Omega.{arith}
 use lib.Dec.{leb}
 use borrow.Author.Tests.{leb-true, leb-false, le-leb, lt-leb}
 use Rattle.calendar.specs.declared.deadlines.Timeliness.the-variants.{InTime, Late}
-use Rattle.calendar.specs.declared.dates.GasDay.the-variants.{Day, OutsideCalendar as NoDay}
-use Rattle.calendar.specs.Days.{lastDay, between, monthLength, dayNumber}
+use Rattle.days.specs.declared.dates.GasDay.the-variants.{Day, OutsideCalendar as NoDay}
+use Rattle.days.specs.Days.{lastDay, between, monthLength, dayNumber}
 use Rattle.calendar.specs.ThermalYears.{isThermalYear, thermalFirst, thermalLast, isThermalMonth}
 use Rattle.calendar.specs.Deadlines.{nextFirst, inTimeOwn, inTimePreceding}
 use Rattle.calendar.specs.Answers.{dayIn, nextFirstAnswer, ownAnswer, precedingAnswer}
-use Rattle.calendar.proofs.Ranges.{and-left, and-right, both, within}
-use Rattle.calendar.proofs.DateLaws.{month-next}
+use Rattle.days.proofs.Ranges.{and-left, and-right, both, within}
+use Rattle.days.proofs.DateLaws.{month-next}
 use Rattle.calendar.proofs.DeadlineLaws.{next-of, next-beyond}
 use Rattle.parts.proofs.CalendarLaws.{year-facts}
 use Rattle.conferral.specs.Spans.{arrives, spanFits, spanInYear, spanOk, spanWhere, annualFirst, annualLast, annualAnswer, isTimely}

@@ -7,7 +7,7 @@ use Rattle.calendar.specs.declared.thermal_years.Span.{Span}
 use Rattle.calendar.specs.declared.thermal_years.Span.the-variants.{Days, OutsideCalendar}
 use Rattle.calendar.specs.declared.deadlines.Timeliness.{Timeliness}
 use Rattle.calendar.specs.declared.deadlines.Timeliness.the-variants.{InTime, Late, OutsideCalendar as NoDeadline}
-use Rattle.calendar.specs.Days.{between, dayNumber}
+use Rattle.days.specs.Days.{between, dayNumber}
 use Rattle.calendar.specs.ThermalYears.{isThermalYear, thermalFirst, thermalLast}
 use Rattle.calendar.specs.Deadlines.{nextFirst}
 

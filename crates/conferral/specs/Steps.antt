@@ -1,11 +1,11 @@
 -- Terms of the contracts of private functions: how the code goes about it. No contract that a caller reads rests on them.
 -- Assumes nothing.
 use Prim.Native.Nat.{ℕ}
-use Rattle.calendar.specs.declared.dates.GasDay.{GasDay}
-use Rattle.calendar.specs.declared.dates.GasDay.the-variants.{Day, OutsideCalendar as NoDay}
+use Rattle.days.specs.declared.dates.GasDay.{GasDay}
+use Rattle.days.specs.declared.dates.GasDay.the-variants.{Day, OutsideCalendar as NoDay}
 use Rattle.calendar.specs.declared.thermal_years.Span.{Span}
 use Rattle.calendar.specs.declared.thermal_years.Span.the-variants.{OutsideCalendar}
-use Rattle.calendar.specs.Days.{between}
+use Rattle.days.specs.Days.{between}
 use Rattle.conferral.specs.Spans.{spanWhere}
 
 -- from a day to the last of those from first to last, where it is one of them

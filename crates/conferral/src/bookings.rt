@@ -2,7 +2,7 @@
 ghost use mathlib.Core.Path.{_≡_};
 ghost use mathlib.Core.Bool.{true};
 ghost use Prim.Native.Nat.{_≤_, _+_};
-ghost use Rattle.calendar.specs.Days.{lastDay};
+ghost use Rattle.days.specs.Days.{lastDay};
 ghost use Rattle.parts.specs.Limits.{rowLength, mostAmount};
 ghost use Rattle.parts.specs.Registers.{state, withLines};
 ghost use Rattle.parts.specs.Charges.{charge};

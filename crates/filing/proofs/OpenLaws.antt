@@ -6,7 +6,7 @@ use mathlib.Core.List.{List}
 use Prim.Native.Nat.{ℕ, _<_}
 use lib.Dec.{ltb}
 use borrow.Author.Tests.{ltb-true, not-true}
-use Rattle.calendar.proofs.Ranges.{and-left, and-right}
+use Rattle.days.proofs.Ranges.{and-left, and-right}
 use Rattle.parts.specs.declared.registers.Register.{Register}
 use Rattle.parts.specs.Limits.{pointCount}
 use Rattle.parts.specs.Tests.{every}

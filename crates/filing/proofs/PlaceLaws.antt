@@ -5,7 +5,7 @@ use mathlib.Core.Bool.{true}
 use Prim.Native.Nat.{ℕ, _≤_, _<_}
 use lib.Dec.{leb, ltb}
 use borrow.Author.Tests.{ltb-true, leb-true}
-use Rattle.calendar.proofs.Ranges.{and-left, and-right}
+use Rattle.days.proofs.Ranges.{and-left, and-right}
 use Rattle.parts.specs.declared.registers.Register.{Register}
 use Rattle.parts.specs.Limits.{userCount, mostGuarantee}
 use Rattle.parts.specs.Registers.{State, state, accountAt, withAccount}

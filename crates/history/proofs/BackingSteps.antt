@@ -13,9 +13,9 @@ use lib.ListN.{set}
 use lib.Seq.{getD-set-other}
 use lib.Signed.{mag}
 use borrow.Author.Tests.{eqb-true, eqb-false, eq-eqb, lt-ltb}
-use Rattle.calendar.specs.Days.{between}
+use Rattle.days.specs.Days.{between}
 use Rattle.calendar.specs.ThermalYears.{thermalFirst}
-use Rattle.calendar.proofs.Ranges.{and-left, and-right, both, within, is-between}
+use Rattle.days.proofs.Ranges.{and-left, and-right, both, within, is-between}
 use Rattle.parts.specs.declared.points.Point.{Point}
 use Rattle.parts.specs.declared.accounts.Account.{Account}
 use Rattle.parts.specs.Limits.{userCount}

@@ -9,8 +9,8 @@ use native.Mathlib.Decide.{decLe, decLt}
 use native.Mathlib.Omega.{arith}
 use lib.Dec.{eqb}
 use borrow.Author.Tests.{eqb-true, eq-eqb}
-use Rattle.calendar.specs.Days.{between}
-use Rattle.calendar.proofs.Ranges.{and-left, and-right, both, within, is-between}
+use Rattle.days.specs.Days.{between}
+use Rattle.days.proofs.Ranges.{and-left, and-right, both, within, is-between}
 use Rattle.parts.specs.Limits.{pointCount}
 use Rattle.parts.specs.Ranges.{sumBelow}
 use Rattle.parts.specs.Amounts.{spanDays}

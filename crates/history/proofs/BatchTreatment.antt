@@ -9,7 +9,7 @@ use native.Mathlib.Omega.{arith}
 use lib.Dec.{eqb}
 use lib.ListN.{getD, length}
 use borrow.Author.Tests.{lt-ltb, eqb-true, eqb-false, ne-eqb}
-use Rattle.calendar.proofs.Ranges.{both, is-between}
+use Rattle.days.proofs.Ranges.{both, is-between}
 use Rattle.parts.specs.Limits.{userCount, mostAmount}
 use Rattle.parts.specs.Ranges.{sumBelow}
 use Rattle.parts.specs.Registers.{State}

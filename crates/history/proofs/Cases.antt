@@ -10,9 +10,9 @@ use native.Mathlib.Omega.{arith}
 use lib.Dec.{ltb}
 use lib.ListN.{getD, replicate, getD-replicate, length-replicate}
 use borrow.Author.Tests.{le-leb, lt-ltb, ltb-true, ne-eqb}
-use Rattle.calendar.specs.Days.{between}
+use Rattle.days.specs.Days.{between}
 use Rattle.calendar.specs.ThermalYears.{inThermalYear, thermalFirst, thermalLast}
-use Rattle.calendar.proofs.Ranges.{and-left, and-right, both, Within, within, is-between}
+use Rattle.days.proofs.Ranges.{and-left, and-right, both, Within, within, is-between}
 use Rattle.calendar.proofs.Cases.{cases}
 use Rattle.parts.specs.declared.points.Point.{Point}
 use Rattle.parts.specs.declared.accounts.Account.{Account}

@@ -3,9 +3,9 @@
 use mathlib.Core.Path.{_≡_}
 use mathlib.Core.List.{[], _∷_}
 use Prim.Native.Nat.{ℕ}
-use Rattle.calendar.specs.Days.{dayNumber, weekday}
+use Rattle.days.specs.Days.{dayNumber, weekday}
 use Rattle.calendar.specs.ThermalYears.{thermalLast}
-use Rattle.calendar.specs.WorkingDays.{easterSunday, workingCount, nthOfMonth}
+use Rattle.working_days.specs.WorkingDays.{easterSunday, workingCount, nthOfMonth}
 use Rattle.parts.specs.Registers.{State}
 use Rattle.parts.specs.Amounts.{spanDays}
 use Rattle.parts.specs.Charges.{charge}

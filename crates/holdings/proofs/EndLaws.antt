@@ -4,9 +4,9 @@ use mathlib.Core.Path.{_≡_, sym, ap, _∙_}
 use mathlib.Core.Bool.{Bool, true, false, true≢false}
 use Prim.Native.Nat.{ℕ, _≤_}
 use borrow.Author.Tests.{le-leb}
-use Rattle.calendar.specs.declared.dates.GasDay.{GasDay}
-use Rattle.calendar.specs.declared.dates.GasDay.the-variants.{Day, OutsideCalendar}
-use Rattle.calendar.specs.Days.{lastDay}
+use Rattle.days.specs.declared.dates.GasDay.{GasDay}
+use Rattle.days.specs.declared.dates.GasDay.the-variants.{Day, OutsideCalendar}
+use Rattle.days.specs.Days.{lastDay}
 use Rattle.calendar.specs.Deadlines.{nextFirst}
 use Rattle.calendar.specs.Answers.{dayIn, nextFirstAnswer}
 

@@ -8,11 +8,11 @@ use native.Mathlib.Omega.{arith}
 use lib.IntN.{pos, _+ℤ_, +ℤ-idr}
 use lib.ListN.{set, length}
 use lib.Seq.{getD-set-same, getD-set-other}
-use Rattle.calendar.specs.Days.{lastDay, between}
+use Rattle.days.specs.Days.{lastDay, between}
 use Rattle.calendar.specs.ThermalYears.{isThermalYear, inThermalYear, thermalLast}
 use Rattle.calendar.specs.Deadlines.{nextFirst}
-use Rattle.calendar.proofs.Ranges.{and-left, and-right, within}
-use Rattle.calendar.proofs.DateLaws.{month-least, month-in}
+use Rattle.days.proofs.Ranges.{and-left, and-right, within}
+use Rattle.days.proofs.DateLaws.{month-least, month-in}
 use Rattle.calendar.proofs.ThermalYearLaws.{thermal-next}
 use Rattle.calendar.proofs.DeadlineLaws.{next-least}
 use Rattle.register.specs.declared.ledger.Line.{Line}

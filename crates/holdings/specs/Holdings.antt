@@ -8,7 +8,7 @@ use mathlib.Core.List.{List}
 use lib.Dec.{eqb}
 use lib.IntN.{ℤ, pos, _+ℤ_}
 use lib.Signed.{ltZ}
-use Rattle.calendar.specs.Days.{between}
+use Rattle.days.specs.Days.{between}
 use Rattle.calendar.specs.ThermalYears.{inThermalYear}
 use Rattle.register.specs.declared.ledger.Line.{Line}
 use Rattle.parts.specs.Limits.{lineCount}

@@ -8,7 +8,7 @@ use lib.Dec.{eqb}
 use lib.IntN.{ℤ, pos}
 use lib.ListN.{getD, length}
 use lib.Signed.{ltZ}
-use Rattle.calendar.specs.Days.{between}
+use Rattle.days.specs.Days.{between}
 use Rattle.calendar.specs.ThermalYears.{isThermalYear, thermalFirst, thermalLast}
 use Rattle.calendar.specs.Deadlines.{nextFirst}
 use Rattle.register.specs.declared.ledger.Line.{Line}

@@ -1,7 +1,7 @@
 // The last day of a ledger line, which its kind implies.
 ghost use mathlib.Core.Path.{_≡_};
 ghost use Prim.Native.Nat.{_-_, _≤_};
-ghost use Rattle.calendar.specs.Days.{lastDay};
+ghost use Rattle.days.specs.Days.{lastDay};
 ghost use Rattle.calendar.specs.Deadlines.{nextFirst};
 ghost use Rattle.holdings.specs.Steps.{boundsOf, endOf};
 use calendar::GasDay;

@@ -2,7 +2,7 @@
 ghost use mathlib.Core.Path.{_≡_};
 ghost use Prim.Native.Nat.{_≤_, _<_};
 ghost use lib.Signed.{mag};
-ghost use Rattle.calendar.specs.Days.{lastDay};
+ghost use Rattle.days.specs.Days.{lastDay};
 ghost use Rattle.calendar.specs.Deadlines.{nextFirst};
 ghost use Rattle.parts.specs.Limits.{lineCount};
 ghost use Rattle.holdings.specs.Steps.{isGathered, gatheredLine, partOn, Gathers};

@@ -7,7 +7,7 @@ use Prim.Native.Nat.{ℕ, zero, suc, _<_}
 use native.Mathlib.Omega.{arith}
 use lib.Dec.{ltb}
 use borrow.Author.Tests.{ltb-true}
-use Rattle.calendar.proofs.Ranges.{and-left, and-right}
+use Rattle.days.proofs.Ranges.{and-left, and-right}
 use Rattle.parts.specs.declared.answers.Refusal.{Refusal}
 use Rattle.parts.specs.declared.answers.Refusal.the-variants.{NotInOrder, OutOfLimits, PointClosed, PointOpen, NotOnFile, BelowCommitment, NotOffered, OutsideYear, Late, NotHeld, NotCovered, NothingFree, LedgerFull, UserRepeated, YearNotLater}
 use Rattle.parts.specs.declared.answers.Verdict.{Verdict}

@@ -4,9 +4,9 @@ use mathlib.Core.Path.{_≡_, sym, ap₂, _∙_}
 use mathlib.Core.Bool.{Bool, true, false}
 use Prim.Native.Nat.{ℕ, _+_, _≤_}
 use native.Mathlib.Omega.{arith}
-use Rattle.calendar.specs.Days.{leap, between}
+use Rattle.days.specs.Days.{leap, between}
 use Rattle.calendar.specs.ThermalYears.{isThermalYear, inThermalYear, thermalFirst, thermalLast, YearSpan}
-use Rattle.calendar.proofs.Ranges.{and-left, and-right, both, Within, within, is-between, cond-le}
+use Rattle.days.proofs.Ranges.{and-left, and-right, both, Within, within, is-between, cond-le}
 use Rattle.calendar.proofs.ThermalYearLaws.{thermal-next, thermal-days, thermal-order, thermal-last}
 use Rattle.parts.specs.Amounts.{yearDays}
 

@@ -8,7 +8,7 @@ use Prim.Native.Nat.{ℕ, zero, suc, _<_}
 use native.Mathlib.Omega.{arith}
 use lib.Dec.{eqb}
 use borrow.Author.Tests.{eqb-false, not-true}
-use Rattle.calendar.proofs.Ranges.{and-left, and-right}
+use Rattle.days.proofs.Ranges.{and-left, and-right}
 use Rattle.parts.specs.Answers.{Question, _asks_, numberOf}
 
 -- the number of the k-th question, from 0 on

@@ -9,7 +9,7 @@ use native.Mathlib.Nat.{eq-or-lt-of-le, le-of-suc-le-suc, not-suc-le-zero}
 use native.Mathlib.Numerals.{add-one}
 use native.Mathlib.Omega.{arith}
 use lib.ListN.{getD}
-use Rattle.calendar.proofs.Ranges.{and-left, and-right, both}
+use Rattle.days.proofs.Ranges.{and-left, and-right, both}
 use Rattle.parts.specs.Tests.{allBelow, someBelow, every, everyFrom}
 
 pub and-false : (a b : Bool) → b ≡ false → (a && b) ≡ false

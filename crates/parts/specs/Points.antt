@@ -3,7 +3,7 @@
 use mathlib.Core.Bool.{Bool, _||_}
 use mathlib.Core.List.{List, [], _∷_}
 use lib.Dec.{leb, ltb, eqb}
-use Rattle.calendar.specs.Days.{between}
+use Rattle.days.specs.Days.{between}
 use Rattle.parts.specs.declared.points.Point.{Point}
 use Rattle.parts.specs.Limits.{mostAmount, mostRate}
 use Rattle.parts.specs.Tests.{every}

@@ -9,8 +9,8 @@ use lib.Dec.{eqb}
 use borrow.Author.Tests.{eqb-true, eqb-false, eq-eqb, ne-eqb}
 use Rattle.calendar.specs.Deadlines.{nextFirst}
 use Rattle.calendar.specs.ThermalYears.{isThermalYear, thermalLast, calendarYear, calendarMonth, thermalMonthFirst, thermalMonthLast}
-use Rattle.calendar.proofs.Ranges.{Within, Month, ThermalMonth}
-use Rattle.calendar.proofs.DateLaws.{month-least, month-after}
+use Rattle.days.proofs.Ranges.{Within, Month, ThermalMonth}
+use Rattle.days.proofs.DateLaws.{month-least, month-after}
 use Rattle.calendar.proofs.ThermalYearLaws.{calendar-month, month-days, thermal-month-to}
 use Rattle.calendar.proofs.DeadlineLaws.{next-of}
 use Rattle.parts.specs.declared.points.Point.{Point}

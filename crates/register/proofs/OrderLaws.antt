@@ -10,10 +10,10 @@ use lib.Dec.{leb, ltb, eqb}
 use lib.ListN.{getD, set, length, replicate, getD-replicate}
 use lib.Seq.{getD-set-same, getD-set-other}
 use borrow.Author.Tests.{ltb-true, leb-true, eqb-true, eq-eqb, ne-eqb}
-use Rattle.calendar.specs.Days.{between}
+use Rattle.days.specs.Days.{between}
 use Rattle.calendar.specs.ThermalYears.{isThermalYear, YearSpan, isThermalMonth, thermalFirst, thermalLast, thermalMonthFirst, calendarYear, calendarMonth}
-use Rattle.calendar.proofs.Ranges.{and-left, and-right, both, Within, within, is-between, ThermalMonth}
-use Rattle.calendar.proofs.DateLaws.{month-least}
+use Rattle.days.proofs.Ranges.{and-left, and-right, both, Within, within, is-between, ThermalMonth}
+use Rattle.days.proofs.DateLaws.{month-least}
 use Rattle.calendar.proofs.ThermalYearLaws.{month-days, thermal-month-from, thermal-month-to}
 use Rattle.parts.specs.declared.points.Point.{Point}
 use Rattle.parts.specs.declared.accounts.Account.{Account}

@@ -8,8 +8,8 @@ use native.Mathlib.Omega.{arith}
 use lib.Dec.{leb, ltb}
 use lib.ListN.{getD}
 use borrow.Author.Tests.{le-leb}
-use Rattle.calendar.specs.Days.{monthLength, daysBefore, monthStart, dateFrom, yearOf, dateOf}
-use Rattle.calendar.specs.WorkingDays.{gaussA, gaussB, gaussC, gaussD, gaussE, easterOffset, fixedHoliday, workingFrom, workingDays, nthOfMonth}
+use Rattle.days.specs.Days.{monthLength, daysBefore, monthStart, dateFrom, yearOf, dateOf}
+use Rattle.working_days.specs.WorkingDays.{gaussA, gaussB, gaussC, gaussD, gaussE, easterOffset, fixedHoliday, workingFrom, workingDays, nthOfMonth}
 use Rattle.calendar.specs.ThermalYears.{inThermalYear}
 use Rattle.calendar.specs.Deadlines.{nextFirst, ownDeadline}
 use Rattle.parts.specs.Limits.{lineCount}

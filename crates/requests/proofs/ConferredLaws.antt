@@ -9,9 +9,9 @@ use native.Mathlib.Omega.{arith}
 use lib.Dec.{eqb}
 use lib.ListN.{getD}
 use borrow.Author.Tests.{eq-eqb}
-use Rattle.calendar.specs.Days.{between}
+use Rattle.days.specs.Days.{between}
 use Rattle.calendar.specs.ThermalYears.{isThermalYear, thermalMonthFirst}
-use Rattle.calendar.proofs.Ranges.{Within, within}
+use Rattle.days.proofs.Ranges.{Within, within}
 use Rattle.parts.specs.Registers.{State}
 use Rattle.register.specs.Ledger.{lineLast}
 use Rattle.parts.specs.Amounts.{entryOf, freeOn}

@@ -6,11 +6,11 @@ use Prim.Native.Nat.{ℕ}
 use native.Mathlib.Omega.{arith}
 use borrow.Author.Tests.{le-leb}
 use Rattle.calendar.specs.declared.thermal_years.Span.the-variants.{OutsideCalendar}
-use Rattle.calendar.specs.Days.{between}
+use Rattle.days.specs.Days.{between}
 use Rattle.calendar.specs.ThermalYears.{isThermalYear, isThermalMonth, calendarYear, calendarMonth, thermalMonthFirst, thermalMonthLast}
 use Rattle.calendar.specs.Answers.{monthAnswer, ownAnswer, precedingAnswer}
-use Rattle.calendar.proofs.Ranges.{both, month-of-test}
-use Rattle.calendar.proofs.DateLaws.{month-least}
+use Rattle.days.proofs.Ranges.{both, month-of-test}
+use Rattle.days.proofs.DateLaws.{month-least}
 use Rattle.calendar.proofs.ThermalYearLaws.{month-days, thermal-month-from, thermal-month-to}
 use Rattle.conferral.specs.Spans.{arrives, spanFits, annualAnswer, isTimely}
 use Rattle.conferral.proofs.SpanLaws.{span-fits, arrival-year, timely-own, timely-preceding}

@@ -9,8 +9,8 @@ use lib.Dec.{ltb}
 use lib.ListN.{getD}
 use borrow.Author.Tests.{ltb-true, ltb-false, lt-ltb, le-ltb}
 use Rattle.calendar.specs.declared.thermal_years.Span.the-variants.{Days, OutsideCalendar}
-use Rattle.calendar.specs.Days.{between}
-use Rattle.calendar.proofs.Ranges.{and-left, and-right, Within, within}
+use Rattle.days.specs.Days.{between}
+use Rattle.days.proofs.Ranges.{and-left, and-right, Within, within}
 use Rattle.calendar.proofs.SpanLaws.{chosen, unchosen}
 use Rattle.parts.specs.declared.registers.Register.{Register}
 use Rattle.parts.specs.Limits.{pointCount, userCount, mostAmount}

@@ -3,7 +3,7 @@
 use Prim.Native.Nat.{ℕ}
 use mathlib.Core.Bool.{Bool, true, not}
 use lib.Dec.{ltb}
-use Rattle.calendar.specs.Days.{between}
+use Rattle.days.specs.Days.{between}
 use Rattle.calendar.specs.ThermalYears.{thermalMonthFirst, thermalMonthLast}
 use Rattle.calendar.specs.Deadlines.{inTimeOwn, inTimePreceding}
 use Rattle.parts.specs.declared.points.Point.{Point}

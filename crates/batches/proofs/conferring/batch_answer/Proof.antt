@@ -4,7 +4,7 @@ use mathlib.Core.Path.{_≡_, sym, ap, _∙_}
 use mathlib.Core.Bool.{Bool, true, _&&_}
 use lib.Dec.{ltb}
 use borrow.Author.Tests.{not-true, not-false, ltb-true}
-use Rattle.calendar.proofs.Ranges.{and-left}
+use Rattle.days.proofs.Ranges.{and-left}
 use Rattle.parts.specs.Limits.{pointCount}
 use Rattle.parts.specs.Registers.{State, state, pointAt}
 use Rattle.parts.specs.Points.{isOpen}

@@ -1,7 +1,7 @@
 use mathlib.Core.Path.{refl}
 use native.Mathlib.Omega.{arith}
 use borrow.Author.Tests.{le-leb, lt-leb}
-use Rattle.calendar.specs.Days.{lastDay}
+use Rattle.days.specs.Days.{lastDay}
 use Rattle.calendar.specs.Answers.{dayIn}
 use borrow.Author.Needs.{needs}
 use Rattle.calendar.proofs.deadlines.in_calendar.Statement.{statement}

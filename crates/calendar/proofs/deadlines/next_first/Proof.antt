@@ -4,10 +4,10 @@
 use Prim.Native.Nat.{_≤_, _<_}
 use mathlib.Core.Path.{_≡_, sym, ap, _∙_}
 use native.Mathlib.Omega.{arith}
-use Rattle.calendar.specs.Days.{dateOf, yearOf}
+use Rattle.days.specs.Days.{dateOf, yearOf}
 use Rattle.calendar.specs.Deadlines.{nextFirst}
 use Rattle.calendar.specs.Answers.{dayIn, nextFirstAnswer}
-use Rattle.calendar.proofs.DateLaws.{date-from}
+use Rattle.days.proofs.DateLaws.{date-from}
 use Rattle.calendar.proofs.DeadlineLaws.{next-same-year, next-january}
 use borrow.Author.Needs.{needs}
 use Rattle.calendar.proofs.deadlines.next_first.Statement.{statement}

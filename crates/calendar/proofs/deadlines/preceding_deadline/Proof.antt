@@ -7,7 +7,7 @@ use native.Mathlib.Omega.{arith}
 use borrow.Author.Tests.{not-true, not-false}
 use Rattle.calendar.specs.ThermalYears.{isThermalMonth}
 use Rattle.calendar.specs.Answers.{precedingDay}
-use Rattle.calendar.proofs.Ranges.{ThermalMonth, month-of-test}
+use Rattle.days.proofs.Ranges.{ThermalMonth, month-of-test}
 use Rattle.calendar.proofs.AnswerLaws.{preceding-day}
 use Rattle.calendar.proofs.DeadlineLaws.{preceding-early, preceding-late}
 use borrow.Author.Needs.{needs}

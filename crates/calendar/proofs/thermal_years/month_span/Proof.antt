@@ -5,10 +5,10 @@ use Prim.Native.Nat.{_+_, _≤_}
 use mathlib.Core.Path.{_≡_, refl, sym, _∙_}
 use mathlib.Core.Bool.{true}
 use native.Mathlib.Omega.{arith}
-use Rattle.calendar.specs.Days.{lastDay, monthLength, monthStart, isMonth}
+use Rattle.days.specs.Days.{lastDay, monthLength, monthStart, isMonth}
 use Rattle.calendar.specs.Answers.{spanOfMonth}
-use Rattle.calendar.proofs.Ranges.{month-of-test}
-use Rattle.calendar.proofs.DateLaws.{month-least, month-in}
+use Rattle.days.proofs.Ranges.{month-of-test}
+use Rattle.days.proofs.DateLaws.{month-least, month-in}
 use borrow.Author.Needs.{needs}
 use Rattle.calendar.proofs.thermal_years.month_span.Statement.{statement}
 use Rattle.calendar.proofs.thermal_years.month_span.Tie as tie

@@ -7,7 +7,7 @@ use native.Mathlib.Omega.{arith}
 use borrow.Author.Tests.{not-true, not-false}
 use Rattle.calendar.specs.ThermalYears.{isThermalMonth, thermalMonthFirst, thermalMonthLast, calendarYear, calendarMonth}
 use Rattle.calendar.specs.Answers.{spanOfMonth, monthAnswer}
-use Rattle.calendar.proofs.Ranges.{month-of-test, is-month}
+use Rattle.days.proofs.Ranges.{month-of-test, is-month}
 use Rattle.calendar.proofs.ThermalYearLaws.{autumn, from-january, calendar-month}
 use borrow.Author.Needs.{needs}
 use Rattle.calendar.proofs.thermal_years.thermal_month.Statement.{statement}

@@ -3,7 +3,7 @@ use mathlib.Core.Bool.{true}
 use native.Mathlib.Omega.{arith}
 use Rattle.calendar.specs.ThermalYears.{isThermalYear}
 use Rattle.calendar.specs.Answers.{yearAnswer}
-use Rattle.calendar.proofs.Ranges.{Within, within}
+use Rattle.days.proofs.Ranges.{Within, within}
 use Rattle.calendar.proofs.ThermalYearLaws.{thermal-order, thermal-last}
 use borrow.Author.Needs.{needs}
 use Rattle.calendar.proofs.thermal_years.thermal_year.Statement.{statement}

@@ -1,6 +1,6 @@
 use mathlib.Core.Path.{_≡_, refl, sym, ap, _∙_}
 use borrow.Author.Tests.{not-true, not-false}
-use Rattle.calendar.proofs.Ranges.{and-left}
+use Rattle.days.proofs.Ranges.{and-left}
 use Rattle.conferral.specs.Spans.{spanFits, isTimely}
 use Rattle.conferral.proofs.SpanLaws.{timely-own}
 use Rattle.cessions.specs.CedeCapacity.{spanFirst, spanLast, deadline, isInTime, heldQuestions, spanQuestions}

@@ -1,6 +1,6 @@
 use mathlib.Core.Path.{_≡_, sym, _∙_}
 use Prim.Native.Nat.{_-_}
-use Rattle.calendar.specs.Days.{dayNumber}
+use Rattle.days.specs.Days.{dayNumber}
 use Rattle.calendar.specs.ThermalYears.{YearSpan}
 use Rattle.calendar.proofs.SpanLaws.{year-span, no-year}
 use Rattle.conferral.proofs.SpanLaws.{september}

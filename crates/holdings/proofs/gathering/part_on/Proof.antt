@@ -4,7 +4,7 @@ use lib.IntN.{ℤ}
 use mir.Syntax.{w32, w64}
 use mir.Val.{SFits, toZ, ofZ}
 use mir.Facts.{toZ-ofZ, sfits-widen}
-use Rattle.calendar.specs.Days.{between}
+use Rattle.days.specs.Days.{between}
 use native.Mathlib.Omega.{arith}
 use Rattle.holdings.proofs.gathering.part_on.Statement.{statement}
 use Rattle.holdings.proofs.gathering.part_on.Tie as tie

@@ -2,7 +2,7 @@ use mathlib.Core.Path.{sym, ap, _∙_}
 use mathlib.Core.Bool.{true, false}
 use Prim.Native.Nat.{ℕ, _-_}
 use Rattle.calendar.specs.ThermalYears.{YearSpan}
-use Rattle.calendar.proofs.Ranges.{within}
+use Rattle.days.proofs.Ranges.{within}
 use Rattle.calendar.proofs.SpanLaws.{year-span, no-year}
 use Rattle.parts.specs.Amounts.{entryAt}
 use Rattle.parts.proofs.CalendarLaws.{in-year, in-no-year}

@@ -1,0 +1,2 @@
+pub mod WorkingDays
+pub mod Answers
