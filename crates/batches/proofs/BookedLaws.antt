@@ -17,12 +17,12 @@ use Rattle.parts.specs.declared.points.Point.{Point}
 use Rattle.parts.specs.declared.accounts.Account.{Account}
 use Rattle.parts.specs.declared.registers.Register.{Register}
 use Rattle.parts.specs.Limits.{pointCount, userCount, lineCount, mostAmount}
-use Rattle.parts.specs.Ranges.{sumBelow}
+use Rattle.amounts.specs.Ranges.{sumBelow}
 use Rattle.parts.specs.Registers.{State, pointAt, accountAt}
-use Rattle.parts.specs.Amounts.{yearDays, entryAt, entryOf, freeOn}
+use Rattle.amounts.specs.Amounts.{yearDays, entryAt, entryOf, freeOn}
 use Rattle.parts.specs.Charges.{charge}
-use Rattle.parts.proofs.RangeLaws.{sum-le}
-use Rattle.parts.proofs.CalendarLaws.{year-facts, day-within, day-in}
+use Rattle.amounts.proofs.RangeLaws.{sum-le}
+use Rattle.amounts.proofs.CalendarLaws.{year-facts, day-within, day-in}
 use Rattle.parts.proofs.AnswerLaws.{leaves-either}
 use Rattle.register.specs.Ledger.{lineAt, lineLast}
 use Rattle.register.specs.Sound.{Sound}

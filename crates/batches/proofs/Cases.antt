@@ -4,9 +4,9 @@ use mathlib.Core.Path.{_≡_, ap, _∙_}
 use mathlib.Core.List.{List, [], _∷_}
 use Prim.Native.Nat.{ℕ, _<_}
 use lib.ListN.{getD, replicate}
-use Rattle.parts.specs.Ranges.{replaced, sumBelow}
+use Rattle.amounts.specs.Ranges.{replaced, sumBelow}
 use Rattle.parts.specs.Registers.{State}
-use Rattle.parts.proofs.RangeLaws.{replaced-same, sum-same}
+use Rattle.amounts.proofs.RangeLaws.{replaced-same, sum-same}
 use Rattle.batches.specs.Batches.{Batch, linesOf, lineNumber}
 use Rattle.batches.specs.Shares.{freeOfYear, countedAt, sumAsked, shareIf, shareOf, listOf}
 use Rattle.batches.specs.ConferBatch.{sharesOf}

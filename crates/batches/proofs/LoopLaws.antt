@@ -14,15 +14,15 @@ use Rattle.calendar.specs.ThermalYears.{isThermalYear}
 use Rattle.days.proofs.Ranges.{and-left, and-right, Within, within}
 use Rattle.parts.specs.declared.registers.Register.{Register}
 use Rattle.parts.specs.Limits.{pointCount, userCount, lineCount, mostAmount}
-use Rattle.parts.specs.Ranges.{replaced, sumBelow}
-use Rattle.parts.specs.Amounts.{yearDays, entryAt}
+use Rattle.amounts.specs.Ranges.{replaced, sumBelow}
+use Rattle.amounts.specs.Amounts.{yearDays, entryAt}
 use Rattle.parts.specs.Tests.{someBelow}
 use Rattle.parts.specs.Registers.{State, pointAt}
 use Rattle.parts.specs.Accounts.{isOnFile}
 use Rattle.parts.specs.Points.{isOpen}
 use Rattle.parts.specs.Answers.{leaves}
 use Rattle.parts.proofs.AnswerLaws.{leaves-new}
-use Rattle.parts.proofs.RangeLaws.{replaced-length, replaced-out, replaced-same, sum-same}
+use Rattle.amounts.proofs.RangeLaws.{replaced-length, replaced-out, replaced-same, sum-same}
 use Rattle.parts.proofs.TestLaws.{some-more}
 use Rattle.register.specs.Order.{inOrder}
 use Rattle.conferral.specs.declared.bookings.Grant.{Grant}

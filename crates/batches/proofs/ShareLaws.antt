@@ -16,12 +16,12 @@ use Rattle.calendar.specs.ThermalYears.{isThermalYear, inThermalYear, thermalFi
 use Rattle.days.proofs.Ranges.{and-left, and-right, cond-le, Within, within}
 use Rattle.parts.specs.declared.registers.Register.{Register}
 use Rattle.parts.specs.Limits.{userCount, mostAmount}
-use Rattle.parts.specs.Ranges.{replaced, sumBelow}
+use Rattle.amounts.specs.Ranges.{replaced, sumBelow}
 use Rattle.parts.specs.Registers.{State}
-use Rattle.parts.specs.Amounts.{yearDays, entryAt, entryOf, freeOn}
+use Rattle.amounts.specs.Amounts.{yearDays, entryAt, entryOf, freeOn}
 use Rattle.parts.proofs.TestLaws.{some-of}
-use Rattle.parts.proofs.RangeLaws.{replaced-length, replaced-in, least-at, least-is}
-use Rattle.parts.proofs.CalendarLaws.{YearFacts, year-facts, day-within, day-in}
+use Rattle.amounts.proofs.RangeLaws.{replaced-length, replaced-in, least-at, least-is}
+use Rattle.amounts.proofs.CalendarLaws.{YearFacts, year-facts, day-within, day-in}
 use Rattle.parts.proofs.AnswerLaws.{passes}
 use Rattle.batches.specs.Batches.{Batch, linesOf, userOf, askedOf, namesSame, namedBefore, accountOf, chargeAsked, lineQuestions, lineNumber}
 use Rattle.batches.specs.Shares.{freeOfYear, counted, countedAt, sumAsked, proQuota, shareIf, shareOf, listOf}

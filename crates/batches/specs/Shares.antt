@@ -6,9 +6,9 @@ use mathlib.Core.List.{List}
 use lib.Dec.{leb, eqb}
 use lib.ListN.{getD, replicate}
 use Rattle.parts.specs.declared.registers.Register.{Register}
-use Rattle.parts.specs.Ranges.{replaced, leastOf, sumBelow}
+use Rattle.amounts.specs.Ranges.{replaced, leastOf, sumBelow}
 use Rattle.parts.specs.Registers.{State}
-use Rattle.parts.specs.Amounts.{yearDays, entryAt}
+use Rattle.amounts.specs.Amounts.{yearDays, entryAt}
 use Rattle.batches.specs.Batches.{Batch, linesOf, askedOf, lineNumber}
 
 -- "F is the smallest free amount of the year": of the n amounts from place `at` on

@@ -6,7 +6,7 @@ ghost use mathlib.Core.Bool.{true};
 ghost use Rattle.calendar.specs.ThermalYears.{isThermalYear};
 ghost use Rattle.parts.specs.Limits.{pointCount, tableLength};
 ghost use Rattle.parts.specs.Registers.{state};
-ghost use Rattle.parts.specs.Amounts.{yearDays, entryAt};
+ghost use Rattle.amounts.specs.Amounts.{yearDays, entryAt};
 ghost use Rattle.parts.specs.Answers.{numberOfVerdict};
 ghost use Rattle.batches.specs.Batches.{batch};
 ghost use Rattle.batches.specs.Shares.{smallest};

@@ -5,7 +5,7 @@ ghost use Prim.Native.Nat.{_<_};
 ghost use lib.ListN.{length};
 ghost use Rattle.calendar.specs.ThermalYears.{isThermalYear};
 ghost use Rattle.parts.specs.Limits.{pointCount};
-ghost use Rattle.parts.specs.Ranges.{replaced};
+ghost use Rattle.amounts.specs.Ranges.{replaced};
 ghost use Rattle.parts.specs.Answers.{numberOfVerdict};
 ghost use Rattle.batches.specs.Batches.{batch, grantFor, lineFields, namedBefore, lineNumber};
 use calendar::Span;

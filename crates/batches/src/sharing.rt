@@ -3,7 +3,7 @@ ghost use mathlib.Core.Path.{_≡_};
 ghost use Prim.Native.Nat.{_≤_};
 ghost use lib.ListN.{length};
 ghost use Rattle.parts.specs.Limits.{mostAmount};
-ghost use Rattle.parts.specs.Ranges.{replaced, sumBelow};
+ghost use Rattle.amounts.specs.Ranges.{replaced, sumBelow};
 ghost use Rattle.batches.specs.ConferBatch.{mostLines};
 ghost use Rattle.batches.specs.Shares.{counted, proQuota, shareIf, numberIf};
 ghost use Rattle.batches.specs.Steps.{countedIn, shareIn, numberIn, Passing};

@@ -10,7 +10,7 @@ use native.Mathlib.Omega.{arith}
 use borrow.Author.Tests.{leb-false, not-false}
 use Rattle.parts.specs.Limits.{lineCount}
 use Rattle.parts.specs.Registers.{State}
-use Rattle.parts.specs.Amounts.{spanDays}
+use Rattle.amounts.specs.Amounts.{spanDays}
 use Rattle.register.specs.Order.{inOrder}
 use Rattle.parts.specs.Answers.{Question, _asks_, numberOf}
 use Rattle.parts.proofs.TestLaws.{fails-at}

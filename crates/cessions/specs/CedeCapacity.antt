@@ -14,7 +14,7 @@ use Rattle.parts.specs.declared.registers.Register.{Register}
 use Rattle.parts.specs.Limits.{pointCount, userCount, mostAmount}
 use Rattle.parts.specs.Registers.{State, state, pointAt, accountAt, withLines, withAccount}
 use Rattle.register.specs.Ledger.{withLine}
-use Rattle.parts.specs.Amounts.{spanDays}
+use Rattle.amounts.specs.Amounts.{spanDays}
 use Rattle.parts.specs.Charges.{charge, discharged}
 use Rattle.parts.specs.Points.{isOpen}
 use Rattle.parts.specs.Accounts.{isOnFile}

@@ -19,13 +19,13 @@ use Rattle.register.specs.declared.ledger.Line.{Line}
 use Rattle.parts.specs.Limits.{pointCount, rowLength, mostAmount}
 use Rattle.parts.specs.Registers.{State, pointAt, accountAt, absentUser}
 use Rattle.register.specs.Ledger.{lineAt, withLine, lineLast}
-use Rattle.parts.specs.Amounts.{entryAt, entryOf, freeOn}
+use Rattle.amounts.specs.Amounts.{entryAt, entryOf, freeOn}
 use Rattle.parts.specs.Accounts.{accountOk}
 use Rattle.register.specs.Order.{isMonthFirst, amountOk, lineOk}
 use Rattle.register.specs.Sound.{Sound}
 use Rattle.register.proofs.LedgerLaws.{with-length, read-back, read-other}
-use Rattle.parts.proofs.CalendarLaws.{year-facts, day-within}
-use Rattle.parts.proofs.AmountLaws.{taken-length, taken-in, taken-out, each-place, taken-le}
+use Rattle.amounts.proofs.CalendarLaws.{year-facts, day-within}
+use Rattle.amounts.proofs.AmountLaws.{taken-length, taken-in, taken-out, each-place, taken-le}
 use Rattle.register.proofs.OrderFacts.{InOrder, ordered, in-order, guarantee-le, on-file-ok, line-ok}
 use Rattle.register.proofs.OrderKept.{set-keeps, account-same, account-other, field-kept, line-carry}
 use Rattle.conferral.specs.declared.bookings.Grant.{Grant}

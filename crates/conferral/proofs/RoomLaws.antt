@@ -16,11 +16,11 @@ use Rattle.parts.specs.declared.registers.Register.{Register}
 use Rattle.parts.specs.Limits.{pointCount, userCount, lineCount, rowLength, mostAmount}
 use Rattle.parts.specs.Registers.{State, state, accountAt, withCommitment, withLines}
 use Rattle.register.specs.Ledger.{withLine}
-use Rattle.parts.specs.Amounts.{entryIn, taken}
+use Rattle.amounts.specs.Amounts.{entryIn, taken}
 use Rattle.parts.specs.Charges.{charge, mostWord, chargeWord, charged}
 use Rattle.parts.proofs.TestLaws.{every-at}
-use Rattle.parts.proofs.CalendarLaws.{year-facts, day-in}
-use Rattle.parts.proofs.AmountLaws.{entry-in}
+use Rattle.amounts.proofs.CalendarLaws.{year-facts, day-in}
+use Rattle.amounts.proofs.AmountLaws.{entry-in}
 use Rattle.conferral.specs.declared.bookings.Grant.{Grant}
 use Rattle.conferral.specs.Spans.{spanFits}
 use Rattle.conferral.specs.Bookings.{covers, linesLeft, daysOf, chargeOf, committed, withCharge, lineOf, booked, limitTests, withinLimits, chargeWithin, isCovered, hasRoom, bookAfter}

@@ -15,7 +15,7 @@ use Rattle.calendar.specs.Answers.{dayIn, nextFirstAnswer, ownAnswer, preceding
 use Rattle.days.proofs.Ranges.{and-left, and-right, both, within}
 use Rattle.days.proofs.DateLaws.{month-next}
 use Rattle.calendar.proofs.DeadlineLaws.{next-of, next-beyond}
-use Rattle.parts.proofs.CalendarLaws.{year-facts}
+use Rattle.amounts.proofs.CalendarLaws.{year-facts}
 use Rattle.conferral.specs.Spans.{arrives, spanFits, spanInYear, spanOk, spanWhere, annualFirst, annualLast, annualAnswer, isTimely}
 use Rattle.conferral.specs.Steps.{spanFrom}
 

@@ -13,7 +13,7 @@ use Rattle.parts.specs.Limits.{pointCount, userCount, lineCount, mostAmount}
 use Rattle.parts.specs.Tests.{every}
 use Rattle.parts.specs.Registers.{State, state, pointAt, accountAt, withCommitment, withLines, withAccount}
 use Rattle.register.specs.Ledger.{withLine}
-use Rattle.parts.specs.Amounts.{spanDays, entryOf, taken}
+use Rattle.amounts.specs.Amounts.{spanDays, entryOf, taken}
 use Rattle.parts.specs.Charges.{charge, mostWord}
 use Rattle.conferral.specs.declared.bookings.Grant.{Grant}
 use Rattle.conferral.specs.Spans.{spanInYear}

@@ -12,15 +12,15 @@ use lib.ListN.{getD, set, length, length-set, length-replicate}
 use Rattle.parts.specs.declared.points.Point.{Point}
 use Rattle.parts.specs.declared.accounts.Account.{Account}
 use Rattle.parts.specs.Limits.{pointCount, userCount, rowLength, ledgerLength}
-use Rattle.parts.specs.Ranges.{replaced}
+use Rattle.amounts.specs.Ranges.{replaced}
 use Rattle.parts.specs.Registers.{State, pointAt, accountAt, closedPoint, absentUser, point, withCommitment}
 use Rattle.register.specs.Ledger.{lineAt}
-use Rattle.parts.specs.Amounts.{yearDays, entryAt, capacity, freedRow}
+use Rattle.amounts.specs.Amounts.{yearDays, entryAt, capacity, freedRow}
 use Rattle.parts.specs.Points.{pointOk}
 use Rattle.parts.specs.Accounts.{accountOk}
 use Rattle.register.specs.Sound.{Sound}
-use Rattle.parts.proofs.RangeLaws.{replaced-length, replaced-in}
-use Rattle.parts.proofs.AmountLaws.{row-length, row-in, row-out, table-length, table-at}
+use Rattle.amounts.proofs.RangeLaws.{replaced-length, replaced-in}
+use Rattle.amounts.proofs.AmountLaws.{row-length, row-in, row-out, table-length, table-at}
 use Rattle.parts.proofs.AnswerLaws.{leaves-either}
 use Rattle.register.proofs.OrderFacts.{InOrder, in-order, open-ok, Absent, OnFile, account-is, absent-ok, on-file-ok}
 use Rattle.register.proofs.OrderKept.{set-keeps, point-same, point-other, line-carry}

@@ -11,7 +11,7 @@ use Rattle.parts.specs.declared.registers.Register.{Register}
 use Rattle.parts.specs.Limits.{pointCount}
 use Rattle.parts.specs.Tests.{every}
 use Rattle.parts.specs.Registers.{State, state, pointAt, point, withPoint}
-use Rattle.parts.specs.Amounts.{yearDays, freedRow}
+use Rattle.amounts.specs.Amounts.{yearDays, freedRow}
 use Rattle.parts.specs.Points.{isOpen, openTests}
 use Rattle.parts.proofs.AnswerLaws.{passes, leaves-new, leaves-old}
 use Rattle.register.proofs.OrderFacts.{InOrder, ordered, Open, open-facts}

@@ -9,9 +9,9 @@ use borrow.Author.Tests.{ltb-true}
 use Rattle.calendar.specs.ThermalYears.{isThermalYear}
 use Rattle.parts.specs.declared.registers.Register.{Register}
 use Rattle.parts.specs.Registers.{State, state}
-use Rattle.parts.specs.Amounts.{daysOfYear, freedTable}
+use Rattle.amounts.specs.Amounts.{daysOfYear, freedTable}
 use Rattle.parts.proofs.AnswerLaws.{passes, leaves-new, leaves-old}
-use Rattle.parts.proofs.AmountLaws.{days-of}
+use Rattle.amounts.proofs.AmountLaws.{days-of}
 use Rattle.register.proofs.OrderFacts.{InOrder, ordered}
 use Rattle.filing.specs.TurnYear.{turnQuestions, turnNumber, turnedRegister, turned, turnAfter}
 

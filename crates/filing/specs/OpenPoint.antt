@@ -7,7 +7,7 @@ use lib.Dec.{ltb}
 use Rattle.parts.specs.Limits.{pointCount}
 use Rattle.parts.specs.Tests.{every}
 use Rattle.parts.specs.Registers.{State, state, pointAt, point, withPoint}
-use Rattle.parts.specs.Amounts.{yearDays, freedRow}
+use Rattle.amounts.specs.Amounts.{yearDays, freedRow}
 use Rattle.parts.specs.Points.{isOpen, openTests}
 use Rattle.register.specs.Order.{inOrder}
 use Rattle.parts.specs.Answers.{Question, _asks_, numberOf, leaves}

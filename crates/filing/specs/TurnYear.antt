@@ -7,10 +7,10 @@ use Rattle.calendar.specs.ThermalYears.{isThermalYear}
 use Rattle.parts.specs.declared.accounts.Account.{Account}
 use Rattle.parts.specs.declared.registers.Register.{Register}
 use Rattle.parts.specs.Limits.{userCount}
-use Rattle.parts.specs.Ranges.{replaced}
+use Rattle.amounts.specs.Ranges.{replaced}
 use Rattle.parts.specs.Registers.{State, state, accountAt, withCommitment, withYear, withAccounts, withLines}
 use Rattle.register.specs.Ledger.{emptyLedger}
-use Rattle.parts.specs.Amounts.{yearDays, freedTable}
+use Rattle.amounts.specs.Amounts.{yearDays, freedTable}
 use Rattle.register.specs.Order.{inOrder}
 use Rattle.parts.specs.Answers.{Question, _asks_, numberOf, leaves}
 

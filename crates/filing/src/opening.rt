@@ -5,7 +5,7 @@ ghost use Prim.Native.Nat.{_<_};
 ghost use Rattle.calendar.specs.ThermalYears.{isThermalYear};
 ghost use Rattle.parts.specs.Limits.{pointCount};
 ghost use Rattle.parts.specs.Registers.{state, withPoint};
-ghost use Rattle.parts.specs.Amounts.{yearDays, freedRow};
+ghost use Rattle.amounts.specs.Amounts.{yearDays, freedRow};
 ghost use Rattle.parts.specs.Answers.{numberOfVerdict};
 ghost use Rattle.filing.specs.OpenPoint.{openFields, openNumber, openAfter};
 use register::Filed;

@@ -10,7 +10,7 @@ use Rattle.calendar.specs.ThermalYears.{inThermalYear}
 use Rattle.parts.specs.declared.accounts.Account.{Account}
 use Rattle.parts.specs.Limits.{userCount, lineCount}
 use Rattle.parts.specs.Registers.{State, pointAt, accountAt, absentUser}
-use Rattle.parts.specs.Amounts.{spanDays, freeOn}
+use Rattle.amounts.specs.Amounts.{spanDays, freeOn}
 use Rattle.parts.specs.Charges.{charge}
 use Rattle.parts.specs.Points.{isOpen}
 use Rattle.parts.specs.Accounts.{isOnFile}

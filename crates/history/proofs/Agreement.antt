@@ -13,7 +13,7 @@ use Rattle.parts.specs.declared.points.Point.{Point}
 use Rattle.parts.specs.declared.accounts.Account.{Account}
 use Rattle.parts.specs.Limits.{pointCount, userCount}
 use Rattle.parts.specs.Registers.{State, pointAt, accountAt, closedPoint, absentUser, blankRegister}
-use Rattle.parts.specs.Amounts.{freeOn}
+use Rattle.amounts.specs.Amounts.{freeOn}
 use Rattle.parts.specs.Points.{isOpen}
 use Rattle.parts.proofs.AnswerLaws.{passed}
 use Rattle.register.specs.Fresh.{freshState}

@@ -16,7 +16,7 @@ use Rattle.parts.specs.declared.points.Point.{Point}
 use Rattle.parts.specs.declared.accounts.Account.{Account}
 use Rattle.parts.specs.Limits.{pointCount, userCount}
 use Rattle.parts.specs.Registers.{State, pointAt, accountAt, absentUser, blankRegister}
-use Rattle.parts.specs.Amounts.{spanDays, yearDays}
+use Rattle.amounts.specs.Amounts.{spanDays, yearDays}
 use Rattle.parts.proofs.TestLaws.{all-at}
 use Rattle.register.specs.Fresh.{freshState}
 use Rattle.register.specs.Sound.{Sound}

@@ -20,9 +20,9 @@ use Rattle.parts.specs.declared.points.Point.{Point}
 use Rattle.parts.specs.declared.accounts.Account.{Account}
 use Rattle.parts.specs.Limits.{userCount}
 use Rattle.parts.specs.Registers.{State, pointAt, accountAt, absentUser, closedPoint, point}
-use Rattle.parts.specs.Amounts.{yearDays}
+use Rattle.amounts.specs.Amounts.{yearDays}
 use Rattle.parts.specs.Points.{isOpen}
-use Rattle.parts.proofs.RangeLaws.{replaced-length}
+use Rattle.amounts.proofs.RangeLaws.{replaced-length}
 use Rattle.parts.proofs.AnswerLaws.{leaves-new}
 use Rattle.register.specs.declared.ledger.Line.{Line}
 use Rattle.register.specs.Ledger.{lineAt, lineLast}

@@ -12,10 +12,10 @@ use borrow.Author.Tests.{eqb-true, eq-eqb}
 use Rattle.days.specs.Days.{between}
 use Rattle.days.proofs.Ranges.{and-left, and-right, both, within, is-between}
 use Rattle.parts.specs.Limits.{pointCount}
-use Rattle.parts.specs.Ranges.{sumBelow}
-use Rattle.parts.specs.Amounts.{spanDays}
+use Rattle.amounts.specs.Ranges.{sumBelow}
+use Rattle.amounts.specs.Amounts.{spanDays}
 use Rattle.parts.specs.Charges.{charge}
-use Rattle.parts.proofs.RangeLaws.{sum-same, sum-le}
+use Rattle.amounts.proofs.RangeLaws.{sum-same, sum-le}
 
 -- ---- sums
 -- of nothing but zeros

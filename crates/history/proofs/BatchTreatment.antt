@@ -11,12 +11,12 @@ use lib.ListN.{getD, length}
 use borrow.Author.Tests.{lt-ltb, eqb-true, eqb-false, ne-eqb}
 use Rattle.days.proofs.Ranges.{both, is-between}
 use Rattle.parts.specs.Limits.{userCount, mostAmount}
-use Rattle.parts.specs.Ranges.{sumBelow}
+use Rattle.amounts.specs.Ranges.{sumBelow}
 use Rattle.parts.specs.Registers.{State}
-use Rattle.parts.specs.Amounts.{yearDays}
+use Rattle.amounts.specs.Amounts.{yearDays}
 use Rattle.parts.specs.Answers.{leaves}
 use Rattle.parts.proofs.AnswerLaws.{leaves-new, leaves-old}
-use Rattle.parts.proofs.RangeLaws.{sum-same}
+use Rattle.amounts.proofs.RangeLaws.{sum-same}
 use Rattle.batches.specs.Batches.{Batch, linesOf, userOf, askedOf, chargeAsked, lineQuestions, lineNumber}
 use Rattle.batches.specs.Shares.{freeOfYear, countedAt, sumAsked, proQuota, shareOf, numberIf, numberOfLine, listOf}
 use Rattle.batches.specs.ConferBatch.{batchQuestions, batchNumber, sharesOf, numbersOf}

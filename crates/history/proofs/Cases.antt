@@ -19,14 +19,14 @@ use Rattle.parts.specs.declared.accounts.Account.{Account}
 use Rattle.parts.specs.Limits.{pointCount, userCount, lineCount, mostAmount}
 use Rattle.parts.specs.Tests.{allBelow, someBelow}
 use Rattle.parts.specs.Registers.{State, pointAt, accountAt, closedPoint, absentUser, point, blankRegister}
-use Rattle.parts.specs.Amounts.{spanDays, yearDays, freeOn}
+use Rattle.amounts.specs.Amounts.{spanDays, yearDays, freeOn}
 use Rattle.parts.specs.Charges.{charge}
 use Rattle.parts.specs.Points.{isOpen}
 use Rattle.parts.specs.Accounts.{isOnFile}
 use Rattle.parts.proofs.TestLaws.{all-at}
-use Rattle.parts.proofs.RangeLaws.{replaced-same, replaced-all}
-use Rattle.parts.proofs.CalendarLaws.{year-facts, day-within, day-year}
-use Rattle.parts.proofs.AmountLaws.{row-in, capacity-in}
+use Rattle.amounts.proofs.RangeLaws.{replaced-same, replaced-all}
+use Rattle.amounts.proofs.CalendarLaws.{year-facts, day-within, day-year}
+use Rattle.amounts.proofs.AmountLaws.{row-in, capacity-in}
 use Rattle.parts.proofs.AnswerLaws.{passed, leaves-new}
 use Rattle.register.specs.Fresh.{freshState}
 use Rattle.register.specs.Sound.{Sound}

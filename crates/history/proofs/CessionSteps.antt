@@ -11,7 +11,7 @@ use borrow.Author.Tests.{eqb-true, eqb-false}
 use Rattle.parts.specs.declared.points.Point.{Point}
 use Rattle.parts.specs.declared.accounts.Account.{Account}
 use Rattle.parts.specs.Registers.{State, pointAt, accountAt}
-use Rattle.parts.specs.Amounts.{entryOf, freeOn}
+use Rattle.amounts.specs.Amounts.{entryOf, freeOn}
 use Rattle.parts.specs.Points.{isOpen}
 use Rattle.cessions.specs.declared.ceding.Cession.{Cession}
 use Rattle.cessions.specs.CedeCapacity.{chargeOf, cessionNumber, cessionAfter}

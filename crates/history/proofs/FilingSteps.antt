@@ -14,12 +14,12 @@ use Rattle.parts.specs.declared.points.Point.{Point}
 use Rattle.parts.specs.declared.accounts.Account.{Account}
 use Rattle.parts.specs.Limits.{userCount, rowLength}
 use Rattle.parts.specs.Registers.{State, pointAt, accountAt, closedPoint, absentUser, point}
-use Rattle.parts.specs.Amounts.{yearDays, freeOn}
+use Rattle.amounts.specs.Amounts.{yearDays, freeOn}
 use Rattle.parts.specs.Points.{isOpen}
-use Rattle.parts.proofs.RangeLaws.{replaced-length}
-use Rattle.parts.proofs.AmountLaws.{capacity-in, row-in, row-out, table-at}
+use Rattle.amounts.proofs.RangeLaws.{replaced-length}
+use Rattle.amounts.proofs.AmountLaws.{capacity-in, row-in, row-out, table-at}
 use Rattle.parts.proofs.AnswerLaws.{leaves-new}
-use Rattle.parts.proofs.CalendarLaws.{year-facts, day-within}
+use Rattle.amounts.proofs.CalendarLaws.{year-facts, day-within}
 use Rattle.register.specs.Sound.{Sound}
 use Rattle.register.proofs.OrderKept.{field-kept}
 use Rattle.filing.specs.OpenPoint.{openNumber, opened, openAfter}

@@ -13,7 +13,7 @@ use Rattle.days.proofs.Ranges.{and-left, and-right, both, within, is-between}
 use Rattle.parts.specs.declared.points.Point.{Point}
 use Rattle.parts.specs.declared.accounts.Account.{Account}
 use Rattle.parts.specs.Registers.{State, pointAt, accountAt}
-use Rattle.parts.specs.Amounts.{freeOn}
+use Rattle.amounts.specs.Amounts.{freeOn}
 use Rattle.parts.specs.Points.{isOpen}
 use Rattle.parts.specs.Charges.{charge}
 use Rattle.conferral.specs.declared.bookings.Grant.{Grant}

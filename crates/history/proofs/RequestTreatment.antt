@@ -5,9 +5,9 @@ use mathlib.Core.Bool.{Bool, true, false, true≢false}
 use Prim.Native.Nat.{ℕ, _≤_, _<_}
 use native.Mathlib.Omega.{arith}
 use Rattle.parts.specs.Registers.{State}
-use Rattle.parts.specs.Amounts.{spanDays, freeOn}
+use Rattle.amounts.specs.Amounts.{spanDays, freeOn}
 use Rattle.parts.specs.Points.{isOpen}
-use Rattle.parts.proofs.CalendarLaws.{day-in}
+use Rattle.amounts.proofs.CalendarLaws.{day-in}
 use Rattle.conferral.specs.Bookings.{booked}
 use Rattle.conferral.proofs.SpanLaws.{span-facts}
 use Rattle.requests.specs.declared.products.Product.{Product}

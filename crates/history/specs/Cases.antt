@@ -7,7 +7,7 @@ use Rattle.days.specs.Days.{dayNumber, weekday}
 use Rattle.calendar.specs.ThermalYears.{thermalLast}
 use Rattle.working_days.specs.WorkingDays.{easterSunday, workingCount, nthOfMonth}
 use Rattle.parts.specs.Registers.{State}
-use Rattle.parts.specs.Amounts.{spanDays}
+use Rattle.amounts.specs.Amounts.{spanDays}
 use Rattle.parts.specs.Charges.{charge}
 use Rattle.requests.specs.declared.products.Product.the-variants.{Annual}
 use Rattle.requests.specs.declared.products.Request.{Request}

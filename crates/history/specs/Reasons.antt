@@ -9,8 +9,8 @@ use lib.Dec.{eqb}
 use lib.ListN.{getD, length}
 use Rattle.calendar.specs.ThermalYears.{isThermalYear, inThermalYear}
 use Rattle.parts.specs.Limits.{lineCount}
-use Rattle.parts.specs.Ranges.{sumBelow}
-use Rattle.parts.specs.Amounts.{spanDays, yearDays}
+use Rattle.amounts.specs.Ranges.{sumBelow}
+use Rattle.amounts.specs.Amounts.{spanDays, yearDays}
 use Rattle.parts.specs.Charges.{charge}
 use Rattle.filing.specs.OpenPoint.{openFields}
 use Rattle.filing.specs.PlaceGuarantee.{placeFields}

@@ -7,7 +7,7 @@ use lib.Dec.{eqb}
 use lib.ListN.{getD, length}
 use Rattle.days.specs.Days.{between}
 use Rattle.calendar.specs.ThermalYears.{thermalFirst, thermalLast}
-use Rattle.parts.specs.Amounts.{spanDays}
+use Rattle.amounts.specs.Amounts.{spanDays}
 use Rattle.parts.specs.Charges.{charge}
 use Rattle.parts.specs.Answers.{leaves}
 use Rattle.register.specs.Fresh.{freshState}

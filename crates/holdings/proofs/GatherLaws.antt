@@ -17,7 +17,7 @@ use Rattle.calendar.proofs.ThermalYearLaws.{thermal-next}
 use Rattle.calendar.proofs.DeadlineLaws.{next-least}
 use Rattle.register.specs.declared.ledger.Line.{Line}
 use Rattle.register.specs.Ledger.{lineAt, lineLast}
-use Rattle.parts.proofs.CalendarLaws.{thermal-year, day-within, day-year}
+use Rattle.amounts.proofs.CalendarLaws.{thermal-year, day-within, day-year}
 use Rattle.holdings.specs.declared.holdings.Holding.{Holding}
 use Rattle.holdings.specs.declared.gathering.GatheredLine.{GatheredLine}
 use Rattle.holdings.specs.declared.ends.Bounds.{Bounds}

@@ -14,12 +14,12 @@ use lib.Signed.{ltZ}
 use Rattle.parts.specs.Limits.{lineCount}
 use Rattle.parts.specs.Tests.{allBelow}
 use Rattle.parts.specs.Registers.{State}
-use Rattle.parts.proofs.CalendarLaws.{day-in}
+use Rattle.amounts.proofs.CalendarLaws.{day-in}
 use Rattle.parts.specs.Answers.{_asks_, numberOf}
 use Rattle.register.specs.Ledger.{lineAt}
 use Rattle.register.specs.Order.{inOrder}
 use Rattle.register.proofs.OrderFacts.{ordered, line-facts}
-use Rattle.parts.specs.Amounts.{spanDays}
+use Rattle.amounts.specs.Amounts.{spanDays}
 use Rattle.parts.proofs.TestLaws.{all-none, all-same}
 use Rattle.holdings.specs.declared.holdings.Holding.{Holding}
 use Rattle.holdings.specs.declared.holdings.Held.{Held}

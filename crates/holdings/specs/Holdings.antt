@@ -14,7 +14,7 @@ use Rattle.register.specs.declared.ledger.Line.{Line}
 use Rattle.parts.specs.Limits.{lineCount}
 use Rattle.parts.specs.Tests.{allBelow}
 use Rattle.register.specs.Ledger.{lineAt, lineLast}
-use Rattle.parts.specs.Amounts.{spanDays}
+use Rattle.amounts.specs.Amounts.{spanDays}
 use Rattle.holdings.specs.declared.holdings.Holding.{Holding}
 use Rattle.holdings.specs.declared.holdings.Held.{Held}
 use Rattle.holdings.specs.declared.holdings.Held.the-variants.{Throughout, ShortOn}

@@ -3,7 +3,7 @@ ghost use mathlib.Core.Path.{_≡_};
 ghost use Prim.Native.Nat.{_≤_, min};
 ghost use lib.ListN.{length};
 ghost use Rattle.parts.specs.Limits.{lineCount};
-ghost use Rattle.parts.specs.Amounts.{spanDays};
+ghost use Rattle.amounts.specs.Amounts.{spanDays};
 ghost use Rattle.holdings.specs.Holdings.{firstShort, heldAnswer};
 ghost use Rattle.holdings.specs.Steps.{gatheredShort};
 use crate::gathering::Gathered;

@@ -1,8 +1,6 @@
 pub mod Limits
 pub mod Tests
-pub mod Ranges
 pub mod Registers
-pub mod Amounts
 pub mod Charges
 pub mod Answers
 pub mod Points

@@ -1,10 +1,9 @@
-// The parts of the capacity register: points, accounts and charges, the free amounts, the register that goes by value, the limits
-// and the answers of the calls.
+// The parts of the capacity register: points, accounts and charges, the register that goes by value, the limits and the answers of
+// the calls. The free amounts are in `amounts`.
 //
 // No function that another crate can name has a `requires`. The meaning of each answer is in specs/, and proofs/ has the laws that
 // callers cite.
 mod accounts;
-mod amounts;
 mod answers;
 mod charges;
 mod limits;
@@ -14,14 +13,6 @@ mod registers;
 pub use accounts::Account;
 pub use accounts::account_in_order;
 pub use accounts::is_on_file;
-pub use amounts::capacity_on;
-pub use amounts::clear;
-pub use amounts::days_of_year;
-pub use amounts::entry_in;
-pub use amounts::free_row;
-pub use amounts::free_table;
-pub use amounts::least_free;
-pub use amounts::take_free;
 pub use answers::Filed;
 pub use answers::Refusal;
 pub use answers::Report;

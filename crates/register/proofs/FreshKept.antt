@@ -10,7 +10,7 @@ use lib.ListN.{getD, length-replicate, getD-replicate}
 use Rattle.calendar.specs.ThermalYears.{isThermalYear}
 use Rattle.parts.specs.Limits.{pointCount, userCount, tableLength, ledgerLength}
 use Rattle.parts.specs.Registers.{state, closedPoint, absentUser, blankRegister}
-use Rattle.parts.specs.Amounts.{entryAt, zeroTable}
+use Rattle.amounts.specs.Amounts.{entryAt, zeroTable}
 use Rattle.parts.specs.Points.{pointOk}
 use Rattle.parts.specs.Accounts.{accountOk}
 use Rattle.register.specs.Order.{inOrder}

@@ -19,7 +19,7 @@ use Rattle.register.specs.declared.ledger.Line.{Line}
 use Rattle.register.specs.Ledger.{lineLast}
 use Rattle.register.specs.Order.{opensMonth, isMonthFirst}
 use Rattle.parts.proofs.TestLaws.{some-at}
-use Rattle.parts.proofs.CalendarLaws.{thermal-year}
+use Rattle.amounts.proofs.CalendarLaws.{thermal-year}
 use Rattle.register.proofs.OrderFacts.{LineFacts}
 
 -- "annual lines end with the year"

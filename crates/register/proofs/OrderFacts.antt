@@ -18,13 +18,13 @@ use Rattle.parts.specs.Limits.{pointCount, userCount, lineCount, rowLength, tab
 use Rattle.parts.specs.Tests.{every}
 use Rattle.parts.specs.Registers.{State, pointAt, accountAt}
 use Rattle.register.specs.Ledger.{lineAt}
-use Rattle.parts.specs.Amounts.{yearDays, entryAt, capacity}
+use Rattle.amounts.specs.Amounts.{yearDays, entryAt, capacity}
 use Rattle.parts.specs.Points.{closedTests, openTests, pointOk}
 use Rattle.parts.specs.Accounts.{absentTests, onFileTests, accountOk}
 use Rattle.register.specs.Order.{amountFits, isMonthFirst, amountOk, lineTests, namesOk, lineOk, pointTest, pointsOk, accountTest, accountsOk, rowTest, tableOk, lineTest, linesOk, lengthsOk, orderTests, inOrder}
 use Rattle.parts.proofs.TestLaws.{or-cases, or-left, or-right, every-at, all-at, all-of}
 use Rattle.register.proofs.OrderLaws.{lengths-table, lengths-ledger, lengths-lines, names-user, names-point}
-use Rattle.parts.proofs.AmountLaws.{capacity-le, capacity-out}
+use Rattle.amounts.proofs.AmountLaws.{capacity-le, capacity-out}
 
 -- ---- in order, as a record
 pub record InOrder (s : State) : Type 0 where

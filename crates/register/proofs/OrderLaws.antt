@@ -23,14 +23,14 @@ use Rattle.parts.specs.Limits.{pointCount, userCount, lineCount, rowLength, tab
 use Rattle.parts.specs.Tests.{allBelow, someBelow, every}
 use Rattle.parts.specs.Registers.{State, pointAt, accountAt}
 use Rattle.register.specs.Ledger.{lineAt}
-use Rattle.parts.specs.Amounts.{yearDays, entryAt, capacity}
+use Rattle.amounts.specs.Amounts.{yearDays, entryAt, capacity}
 use Rattle.parts.specs.Points.{isOpen}
 use Rattle.parts.specs.Accounts.{isOnFile}
 use Rattle.register.specs.Order.{amountOk, amountFits, rowOk, opensMonth, isMonthFirst, namesOk, lineTests, lineOk, lineTest, linesOk, lengthsOk, pointsOk, accountsOk, tableOk, orderTests, inOrder}
 use Rattle.register.specs.Steps.{atMost, Marked, fieldTests, namedTests}
 use Rattle.parts.proofs.TestLaws.{and-false, every-at, every-false, all-more, all-same, all-fails, some-none, some-more}
-use Rattle.parts.proofs.CalendarLaws.{YearFacts, year-facts, thermal-year}
-use Rattle.parts.proofs.AmountLaws.{capacity-in}
+use Rattle.amounts.proofs.CalendarLaws.{YearFacts, year-facts, thermal-year}
+use Rattle.amounts.proofs.AmountLaws.{capacity-in}
 
 -- ---- the free amounts
 

@@ -9,10 +9,10 @@ use borrow.Author.Tests.{ltb-true}
 use Rattle.calendar.specs.ThermalYears.{inThermalYear}
 use Rattle.parts.specs.Limits.{pointCount}
 use Rattle.parts.specs.Registers.{State, pointAt}
-use Rattle.parts.specs.Amounts.{entryOf, freeOn}
+use Rattle.amounts.specs.Amounts.{entryOf, freeOn}
 use Rattle.register.specs.Reports.{reportQuestions, reportNumber, reportAmount}
 use Rattle.parts.proofs.AnswerLaws.{passes, leaves-new, leaves-old}
-use Rattle.parts.proofs.CalendarLaws.{year-facts, day-within}
+use Rattle.amounts.proofs.CalendarLaws.{year-facts, day-within}
 use Rattle.register.proofs.OrderFacts.{InOrder, ordered}
 
 module _ (s : State) (p d : ℕ) where

@@ -8,7 +8,7 @@ use Rattle.calendar.specs.ThermalYears.{isThermalYear}
 use Rattle.parts.specs.Limits.{tableLength, ledgerLength}
 use Rattle.parts.specs.Registers.{State, state, blankRegister}
 use Rattle.register.specs.Ledger.{emptyLedger}
-use Rattle.parts.specs.Amounts.{zeroTable}
+use Rattle.amounts.specs.Amounts.{zeroTable}
 use Rattle.parts.specs.Answers.{Question, _asks_, numberOf, leaves}
 
 -- "a year out of limits or a table of another length gives 2": so does a ledger of another length

@@ -19,7 +19,7 @@ use Rattle.parts.specs.Points.{isOpen, pointOk}
 use Rattle.parts.specs.Accounts.{isOnFile, accountOk}
 use Rattle.parts.specs.Registers.{State, pointAt, accountAt}
 use Rattle.register.specs.Ledger.{lineAt}
-use Rattle.parts.specs.Amounts.{yearDays, entryAt, capacity}
+use Rattle.amounts.specs.Amounts.{yearDays, entryAt, capacity}
 
 -- "each free amount at most its total, zeros where named": a closed point has the total 0, and after the end of a 365-day year
 -- the capacity is 0

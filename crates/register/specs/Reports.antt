@@ -6,7 +6,7 @@ use lib.Dec.{ltb}
 use Rattle.calendar.specs.ThermalYears.{inThermalYear}
 use Rattle.parts.specs.Limits.{pointCount}
 use Rattle.parts.specs.Registers.{State, pointAt}
-use Rattle.parts.specs.Amounts.{freeOn}
+use Rattle.amounts.specs.Amounts.{freeOn}
 use Rattle.parts.specs.Points.{isOpen}
 use Rattle.register.specs.Order.{inOrder}
 use Rattle.parts.specs.Answers.{Question, _asks_, numberOf, leaves}

@@ -14,6 +14,7 @@ ghost use Rattle.register.specs.Order.{amountOk, namesOk, lengthsOk, poi
 ghost use Rattle.register.specs.Steps.{atMost, Marked, fieldTests, namedTests};
 use crate::ledger::Line;
 use crate::ledger::fields_at;
+use amounts::capacity_on;
 use calendar::Span;
 use parts::Account;
 use parts::LEAST_SIGNED;
@@ -27,7 +28,6 @@ use parts::Register;
 use parts::TABLE;
 use parts::USERS;
 use parts::account_in_order;
-use parts::capacity_on;
 use parts::is_on_file;
 use parts::is_open;
 use parts::point_in_order;

@@ -5,16 +5,16 @@ ghost use Prim.Native.Nat.{_<_};
 ghost use lib.ListN.{getD, length};
 ghost use Rattle.calendar.specs.ThermalYears.{inThermalYear};
 ghost use Rattle.parts.specs.Registers.{state};
-ghost use Rattle.parts.specs.Amounts.{entryOf};
+ghost use Rattle.amounts.specs.Amounts.{entryOf};
 ghost use Rattle.parts.specs.Answers.{numberOfVerdict, numberOfReport, amountOfReport};
 ghost use Rattle.register.specs.Reports.{reportNumber, reportAmount};
 use crate::order::in_order;
+use amounts::entry_in;
 use parts::POINTS;
 use parts::Refusal;
 use parts::Register;
 use parts::Report;
 use parts::Verdict;
-use parts::entry_in;
 use parts::is_open;
 
 // Questions 1, 2, 3 and 8.

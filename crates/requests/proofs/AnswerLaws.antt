@@ -11,7 +11,7 @@ use Rattle.parts.specs.declared.answers.Refusal.{Refusal}
 use Rattle.parts.specs.Limits.{lineCount}
 use Rattle.parts.specs.Registers.{State}
 use Rattle.parts.specs.Answers.{numberOfRefusal, Passes}
-use Rattle.parts.proofs.RangeLaws.{least-le}
+use Rattle.amounts.proofs.RangeLaws.{least-le}
 use Rattle.register.proofs.OrderFacts.{InOrder, ordered}
 use Rattle.parts.proofs.AnswerLaws.{passes, passed, refusal-number, leaves-new, leaves-old}
 use Rattle.conferral.specs.declared.bookings.Grant.{Grant}

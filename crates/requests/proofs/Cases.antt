@@ -14,12 +14,12 @@ use Rattle.calendar.specs.ThermalYears.{inThermalYear}
 use Rattle.calendar.specs.Deadlines.{nextFirst, ownDeadline}
 use Rattle.parts.specs.Limits.{lineCount}
 use Rattle.parts.specs.Registers.{State}
-use Rattle.parts.specs.Amounts.{spanDays, entryOf, freeOn}
+use Rattle.amounts.specs.Amounts.{spanDays, entryOf, freeOn}
 use Rattle.parts.specs.Charges.{charge}
 use Rattle.parts.specs.Points.{isOpen}
 use Rattle.parts.specs.Accounts.{isOnFile}
-use Rattle.parts.proofs.RangeLaws.{least-is}
-use Rattle.parts.proofs.CalendarLaws.{day-in}
+use Rattle.amounts.proofs.RangeLaws.{least-is}
+use Rattle.amounts.proofs.CalendarLaws.{day-in}
 use Rattle.register.specs.Order.{inOrder}
 use Rattle.conferral.specs.Spans.{arrives}
 use Rattle.conferral.specs.Bookings.{covers, linesLeft}

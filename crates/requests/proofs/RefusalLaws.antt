@@ -9,7 +9,7 @@ use lib.ListN.{getD}
 use borrow.Author.Tests.{leb-false, ltb-false}
 use Rattle.parts.specs.Limits.{lineCount}
 use Rattle.parts.specs.Registers.{State}
-use Rattle.parts.specs.Amounts.{entryOf, freeOn}
+use Rattle.amounts.specs.Amounts.{entryOf, freeOn}
 use Rattle.parts.proofs.TestLaws.{fails-at}
 use Rattle.register.proofs.OrderFacts.{ordered}
 use Rattle.parts.proofs.QuestionLaws.{numberAt, lone, RefusedAt, refused-at}

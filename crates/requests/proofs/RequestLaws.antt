@@ -15,11 +15,11 @@ use Rattle.calendar.proofs.SpanLaws.{chosen, unchosen}
 use Rattle.parts.specs.declared.registers.Register.{Register}
 use Rattle.parts.specs.Limits.{pointCount, userCount, mostAmount}
 use Rattle.parts.specs.Tests.{allBelow}
-use Rattle.parts.specs.Ranges.{leastOf}
-use Rattle.parts.specs.Amounts.{spanDays, entryOf, entryIn}
+use Rattle.amounts.specs.Ranges.{leastOf}
+use Rattle.amounts.specs.Amounts.{spanDays, entryOf, entryIn}
 use Rattle.parts.specs.Answers.{Question, numberOf}
-use Rattle.parts.proofs.CalendarLaws.{day-in}
-use Rattle.parts.proofs.AmountLaws.{entry-in}
+use Rattle.amounts.proofs.CalendarLaws.{day-in}
+use Rattle.amounts.proofs.AmountLaws.{entry-in}
 use Rattle.conferral.specs.declared.bookings.Grant.{Grant}
 use Rattle.conferral.specs.Bookings.{covers, isCovered}
 use Rattle.conferral.proofs.SpanLaws.{SpanFacts, span-facts}

@@ -11,9 +11,9 @@ use Rattle.parts.specs.declared.accounts.Account.{Account}
 use Rattle.parts.specs.declared.registers.Register.{Register}
 use Rattle.parts.specs.Limits.{pointCount, userCount, mostAmount}
 use Rattle.parts.specs.Tests.{allBelow}
-use Rattle.parts.specs.Ranges.{leastOf}
+use Rattle.amounts.specs.Ranges.{leastOf}
 use Rattle.parts.specs.Registers.{State, pointAt, accountAt}
-use Rattle.parts.specs.Amounts.{spanDays, entryOf}
+use Rattle.amounts.specs.Amounts.{spanDays, entryOf}
 use Rattle.parts.specs.Points.{isOpen}
 use Rattle.parts.specs.Accounts.{isOnFile}
 use Rattle.register.specs.Order.{inOrder}

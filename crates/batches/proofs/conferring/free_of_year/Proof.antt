@@ -3,8 +3,8 @@
 use mathlib.Core.Path.{_≡_, ap, _∙_}
 use Prim.Native.Nat.{ℕ, _*_}
 use Rattle.parts.specs.Limits.{rowLength}
-use Rattle.parts.specs.Amounts.{yearDays, entryAt}
-use Rattle.parts.proofs.AmountLaws.{days-of}
+use Rattle.amounts.specs.Amounts.{yearDays, entryAt}
+use Rattle.amounts.proofs.AmountLaws.{days-of}
 use Rattle.batches.specs.Shares.{smallest}
 use native.Mathlib.Omega.{arith}
 use borrow.Author.Needs.{needs}

@@ -3,8 +3,8 @@
 use mathlib.Core.Path.{_≡_, refl, _∙_}
 use Prim.Native.Nat.{_-_, _≤_}
 use lib.ListN.{length, length-set}
-use Rattle.parts.specs.Ranges.{replaced}
-use Rattle.parts.proofs.RangeLaws.{replaced-none, replaced-end, step-from-start}
+use Rattle.amounts.specs.Ranges.{replaced}
+use Rattle.amounts.proofs.RangeLaws.{replaced-none, replaced-end, step-from-start}
 use Rattle.batches.specs.Batches.{batch, lineNumber}
 use native.Mathlib.Omega.{arith}
 use borrow.Author.Needs.{needs}

@@ -4,8 +4,8 @@
 use mathlib.Core.Path.{_≡_, refl, sym, ap, ap₂, _∙_}
 use Prim.Native.Nat.{ℕ, _-_, _≤_}
 use lib.ListN.{length, length-set, getD}
-use Rattle.parts.specs.Ranges.{replaced}
-use Rattle.parts.proofs.RangeLaws.{replaced-none, replaced-end, step-from-start}
+use Rattle.amounts.specs.Ranges.{replaced}
+use Rattle.amounts.proofs.RangeLaws.{replaced-none, replaced-end, step-from-start}
 use Rattle.batches.specs.Shares.{shareIf, numberIf}
 use Rattle.batches.specs.Steps.{shareIn, numberIn}
 use Rattle.batches.proofs.LoopLaws.{not-reached}

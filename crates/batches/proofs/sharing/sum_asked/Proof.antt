@@ -4,8 +4,8 @@ use mathlib.Core.Path.{_≡_, ap, _∙_}
 use Prim.Native.Nat.{ℕ, _*_, _-_, _≤_}
 use lib.ListN.{length, getD}
 use Rattle.parts.specs.Limits.{mostAmount}
-use Rattle.parts.specs.Ranges.{sumBelow}
-use Rattle.parts.proofs.RangeLaws.{sum-none, sum-more}
+use Rattle.amounts.specs.Ranges.{sumBelow}
+use Rattle.amounts.proofs.RangeLaws.{sum-none, sum-more}
 use Rattle.batches.specs.Steps.{countedIn}
 use Rattle.batches.proofs.LoopLaws.{counted-le}
 use native.Mathlib.Omega.{arith}

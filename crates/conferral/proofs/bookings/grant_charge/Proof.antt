@@ -1,4 +1,4 @@
-use Rattle.parts.proofs.CalendarLaws.{year-facts}
+use Rattle.amounts.proofs.CalendarLaws.{year-facts}
 use Rattle.conferral.proofs.RoomLaws.{LimitFacts, limits, days-most}
 use native.Mathlib.Omega.{arith}
 use borrow.Author.Needs.{needs}

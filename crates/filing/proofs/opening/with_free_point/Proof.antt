@@ -1,6 +1,6 @@
 use mathlib.Core.Path.{refl, ap, _∙_}
-use Rattle.parts.specs.Amounts.{freedRow}
-use Rattle.parts.proofs.AmountLaws.{days-of}
+use Rattle.amounts.specs.Amounts.{freedRow}
+use Rattle.amounts.proofs.AmountLaws.{days-of}
 use borrow.Author.Needs.{needs}
 use Rattle.filing.proofs.opening.with_free_point.Statement.{statement}
 use Rattle.filing.proofs.opening.with_free_point.Tie as tie

@@ -1,7 +1,7 @@
 use mathlib.Core.Path.{_≡_, refl, ap}
 use Prim.Native.Nat.{_-_, _≤_}
-use Rattle.parts.specs.Ranges.{replaced}
-use Rattle.parts.proofs.RangeLaws.{step-from-start, replaced-none, replaced-end}
+use Rattle.amounts.specs.Ranges.{replaced}
+use Rattle.amounts.proofs.RangeLaws.{step-from-start, replaced-none, replaced-end}
 use Rattle.filing.specs.TurnYear.{settledAt, settledAccounts}
 use native.Mathlib.Omega.{arith}
 use borrow.Author.Needs.{needs}

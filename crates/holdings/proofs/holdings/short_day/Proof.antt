@@ -8,7 +8,7 @@ use mir.Syntax.{w64}
 use mir.Val.{toZ, ofZ}
 use mir.Facts.{toZ-ofZ}
 use Rattle.parts.specs.Limits.{lineCount}
-use Rattle.parts.specs.Amounts.{spanDays}
+use Rattle.amounts.specs.Amounts.{spanDays}
 use Rattle.holdings.specs.Holdings.{signedSum, firstShort}
 use Rattle.holdings.specs.Steps.{gatheredPart, gatheredShort}
 use Rattle.holdings.proofs.SumLaws.{sum-none, sum-more, added, added-fits, added-small}

@@ -3,9 +3,9 @@ use mathlib.Core.Bool.{true, _&&_}
 use Prim.Native.Nat.{ℕ}
 use borrow.Author.Tests.{not-true, not-false}
 use Rattle.parts.specs.Registers.{State, state}
-use Rattle.parts.specs.Amounts.{spanDays, yearDays}
+use Rattle.amounts.specs.Amounts.{spanDays, yearDays}
 use Rattle.register.specs.Order.{lengthsOk, pointsOk, accountsOk, tableOk}
-use Rattle.parts.proofs.CalendarLaws.{YearFacts, year-facts}
+use Rattle.amounts.proofs.CalendarLaws.{YearFacts, year-facts}
 use Rattle.register.proofs.OrderLaws.{lengths-table, lengths-ledger, lengths-lines, no-lengths, no-points, no-table, by-lines}
 use native.Mathlib.Omega.{arith}
 use borrow.Author.Needs.{needs}

@@ -4,8 +4,8 @@ use Prim.Native.Nat.{ℕ, _+_}
 use lib.Dec.{ltb}
 use borrow.Author.Tests.{not-true, not-false, lt-ltb, le-ltb, le-leb, lt-leb}
 use Rattle.parts.specs.Limits.{lineCount}
-use Rattle.parts.specs.Ranges.{leastOf}
-use Rattle.parts.specs.Amounts.{spanDays}
+use Rattle.amounts.specs.Ranges.{leastOf}
+use Rattle.amounts.specs.Amounts.{spanDays}
 use Rattle.conferral.specs.declared.bookings.Grant.{Grant}
 use Rattle.conferral.specs.Bookings.{covers}
 use Rattle.conferral.proofs.SpanLaws.{SpanFacts}

@@ -2,13 +2,13 @@
 ghost use mathlib.Core.Path.{_≡_};
 ghost use Prim.Native.Nat.{_-_, min};
 ghost use lib.ListN.{length, replicate};
-ghost use Rattle.parts.specs.Ranges.{leastOf};
-ghost use Rattle.parts.specs.Amounts.{daysOfYear, entryAt, entryIn, capacity, taken, freedRow, freedTable};
-use crate::limits::POINTS;
-use crate::limits::ROW;
-use crate::limits::TABLE;
-use crate::points::Point;
+ghost use Rattle.amounts.specs.Ranges.{leastOf};
+ghost use Rattle.amounts.specs.Amounts.{daysOfYear, entryAt, entryIn, capacity, taken, freedRow, freedTable};
 use calendar::Span;
+use parts::POINTS;
+use parts::Point;
+use parts::ROW;
+use parts::TABLE;
 
 // The gas-days of a thermal year; 0 for a year that has no thermal year.
 pub fn days_of_year(year: u16) -> usize

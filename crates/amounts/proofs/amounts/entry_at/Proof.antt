@@ -1,7 +1,7 @@
 use mathlib.Core.Path.{refl}
 use borrow.Author.Needs.{needs}
-use Rattle.parts.proofs.amounts.entry_at.Statement.{statement}
-use Rattle.parts.proofs.amounts.entry_at.Tie as tie
+use Rattle.amounts.proofs.amounts.entry_at.Statement.{statement}
+use Rattle.amounts.proofs.amounts.entry_at.Tie as tie
 
 mul-result : tie.Need-mul-result
 mul-result c = search needs

@@ -1,13 +1,13 @@
 use mathlib.Core.Path.{_≡_, refl}
 use Prim.Native.Nat.{_-_, _≤_}
 use lib.ListN.{length, length-set}
-use Rattle.parts.specs.Ranges.{replaced}
-use Rattle.parts.specs.Amounts.{capacity, freedRow}
-use Rattle.parts.proofs.RangeLaws.{replaced-none, replaced-step, replaced-done}
+use Rattle.amounts.specs.Ranges.{replaced}
+use Rattle.amounts.specs.Amounts.{capacity, freedRow}
+use Rattle.amounts.proofs.RangeLaws.{replaced-none, replaced-step, replaced-done}
 use native.Mathlib.Omega.{arith}
 use borrow.Author.Needs.{needs}
-use Rattle.parts.proofs.amounts.free_row.Statement.{statement}
-use Rattle.parts.proofs.amounts.free_row.Tie as tie
+use Rattle.amounts.proofs.amounts.free_row.Statement.{statement}
+use Rattle.amounts.proofs.amounts.free_row.Tie as tie
 
 abbrev Inv-loop : tie.InvT-loop
 Inv-loop free₀ i days p at n k₀ free k =

@@ -8,7 +8,7 @@ use Rattle.days.specs.Days.{leap, between}
 use Rattle.calendar.specs.ThermalYears.{isThermalYear, inThermalYear, thermalFirst, thermalLast, YearSpan}
 use Rattle.days.proofs.Ranges.{and-left, and-right, both, Within, within, is-between, cond-le}
 use Rattle.calendar.proofs.ThermalYearLaws.{thermal-next, thermal-days, thermal-order, thermal-last}
-use Rattle.parts.specs.Amounts.{yearDays}
+use Rattle.amounts.specs.Amounts.{yearDays}
 
 -- a thermal year within limits
 pub thermal-year : (y : ℕ) → isThermalYear y ≡ true → Within 2000 2098 y

@@ -1,13 +1,13 @@
 use mathlib.Core.Path.{sym, ap₂, _∙_}
-use Rattle.parts.specs.Amounts.{spanDays}
+use Rattle.amounts.specs.Amounts.{spanDays}
 use Rattle.calendar.specs.ThermalYears.{YearSpan}
 use Rattle.calendar.proofs.SpanLaws.{year-span, no-year}
-use Rattle.parts.proofs.CalendarLaws.{year-facts}
-use Rattle.parts.proofs.AmountLaws.{days-of, no-days}
+use Rattle.amounts.proofs.CalendarLaws.{year-facts}
+use Rattle.amounts.proofs.AmountLaws.{days-of, no-days}
 use native.Mathlib.Omega.{arith}
 use borrow.Author.Needs.{needs}
-use Rattle.parts.proofs.amounts.days_of_year.Statement.{statement}
-use Rattle.parts.proofs.amounts.days_of_year.Tie as tie
+use Rattle.amounts.proofs.amounts.days_of_year.Statement.{statement}
+use Rattle.amounts.proofs.amounts.days_of_year.Tie as tie
 
 thermal-year-requires : tie.Need-thermal-year-requires
 thermal-year-requires c κs = search needs

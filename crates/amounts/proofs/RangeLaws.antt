@@ -10,7 +10,7 @@ use native.Mathlib.Decide.{decLe, decLt}
 use native.Mathlib.Omega.{arith}
 use lib.ListN.{getD, set, length, length-set, replicate, length-replicate, getD-replicate, List·getD-eq-default}
 use lib.Seq.{getD-set-same, getD-set-other, set-out, ext-getD}
-use Rattle.parts.specs.Ranges.{replaced, leastOf, sumBelow}
+use Rattle.amounts.specs.Ranges.{replaced, leastOf, sumBelow}
 
 module _ {A : Type 0} where
   -- nothing replaced yet, one more, and the end of the loop

@@ -1,15 +1,15 @@
 use mathlib.Core.Path.{_≡_, refl, ap, _∙_}
 use Prim.Native.Nat.{_*_, _-_, _≤_}
 use lib.ListN.{length}
 use Rattle.parts.specs.Limits.{rowLength}
-use Rattle.parts.specs.Ranges.{replaced}
-use Rattle.parts.specs.Amounts.{capacityAt}
-use Rattle.parts.proofs.RangeLaws.{replaced-none}
-use Rattle.parts.proofs.AmountLaws.{row-length, table-step, table-done}
+use Rattle.amounts.specs.Ranges.{replaced}
+use Rattle.amounts.specs.Amounts.{capacityAt}
+use Rattle.amounts.proofs.RangeLaws.{replaced-none}
+use Rattle.amounts.proofs.AmountLaws.{row-length, table-step, table-done}
 use native.Mathlib.Omega.{arith}
 use borrow.Author.Needs.{needs}
-use Rattle.parts.proofs.amounts.free_table.Statement.{statement}
-use Rattle.parts.proofs.amounts.free_table.Tie as tie
+use Rattle.amounts.proofs.amounts.free_table.Statement.{statement}
+use Rattle.amounts.proofs.amounts.free_table.Tie as tie
 
 abbrev Inv-loop : tie.InvT-loop
 Inv-loop free₀ days points i₀ free i =

@@ -11,12 +11,12 @@ use lib.Dec.{ltb}
 use lib.ListN.{getD, set, length}
 use borrow.Author.Tests.{lt-ltb, le-ltb}
 use Rattle.calendar.specs.ThermalYears.{isThermalYear, inThermalYear}
 use Rattle.parts.specs.declared.points.Point.{Point}
 use Rattle.parts.specs.Limits.{pointCount, rowLength, tableLength}
-use Rattle.parts.specs.Ranges.{replaced}
+use Rattle.amounts.specs.Ranges.{replaced}
 use Rattle.parts.specs.Registers.{pointAt}
-use Rattle.parts.specs.Amounts.{yearDays, daysOfYear, entryAt, entryOf, entryIn, capacity, lessBy, taken, freedRow, capacityAt, freedTable}
-use Rattle.parts.proofs.RangeLaws.{replaced-step, replaced-join, replaced-same, replaced-length, replaced-in, replaced-out}
+use Rattle.amounts.specs.Amounts.{yearDays, daysOfYear, entryAt, entryOf, entryIn, capacity, lessBy, taken, freedRow, capacityAt, freedTable}
+use Rattle.amounts.proofs.RangeLaws.{replaced-step, replaced-join, replaced-same, replaced-length, replaced-in, replaced-out}
 
 -- the days of a thermal year within limits
 pub days-of : (y : ℕ) → isThermalYear y ≡ true → daysOfYear y ≡ yearDays y

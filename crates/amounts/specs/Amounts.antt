@@ -6,10 +6,10 @@ use mathlib.Core.List.{List}
 use lib.Dec.{ltb}
 use lib.ListN.{getD, replicate}
 use Rattle.calendar.specs.ThermalYears.{isThermalYear, inThermalYear, thermalFirst, thermalLast}
 use Rattle.parts.specs.declared.points.Point.{Point}
 use Rattle.parts.specs.Limits.{rowLength, tableLength}
-use Rattle.parts.specs.Ranges.{replaced}
+use Rattle.amounts.specs.Ranges.{replaced}
 use Rattle.parts.specs.Registers.{State, pointAt}
 
 -- the days of a span
 abbrev pub spanDays : ℕ → ℕ → ℕ

@@ -1,8 +1,8 @@
 use mathlib.Core.Path.{sym}
-use Rattle.parts.proofs.AmountLaws.{capacity-in, capacity-out}
+use Rattle.amounts.proofs.AmountLaws.{capacity-in, capacity-out}
 use native.Mathlib.Omega.{arith}
-use Rattle.parts.proofs.amounts.capacity_on.Statement.{statement}
-use Rattle.parts.proofs.amounts.capacity_on.Tie as tie
+use Rattle.amounts.proofs.amounts.capacity_on.Statement.{statement}
+use Rattle.amounts.proofs.amounts.capacity_on.Tie as tie
 
 returns : tie.Need-returns
 returns c = sym (capacity-in (c .before .args .days) (c .before .args .p) (c .before .args .k) (omega arith))

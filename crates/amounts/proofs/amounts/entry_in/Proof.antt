@@ -4,13 +4,13 @@ use Prim.Native.Nat.{ℕ, _-_}
 use Rattle.calendar.specs.ThermalYears.{YearSpan}
 use Rattle.days.proofs.Ranges.{within}
 use Rattle.calendar.proofs.SpanLaws.{year-span, no-year}
-use Rattle.parts.specs.Amounts.{entryAt}
-use Rattle.parts.proofs.CalendarLaws.{in-year, in-no-year}
-use Rattle.parts.proofs.AmountLaws.{entry-in, entry-out}
+use Rattle.amounts.specs.Amounts.{entryAt}
+use Rattle.amounts.proofs.CalendarLaws.{in-year, in-no-year}
+use Rattle.amounts.proofs.AmountLaws.{entry-in, entry-out}
 use native.Mathlib.Omega.{arith}
 use borrow.Author.Needs.{needs}
-use Rattle.parts.proofs.amounts.entry_in.Statement.{statement}
-use Rattle.parts.proofs.amounts.entry_in.Tie as tie
+use Rattle.amounts.proofs.amounts.entry_in.Statement.{statement}
+use Rattle.amounts.proofs.amounts.entry_in.Tie as tie
 
 -- this is the year's span
 span : (c : tie.After-known-told) → YearSpan (c .before .before .before .before .args .year) (c .before .span .given .0 .0) (c .before .span .given .0 .1 .0)
