@@ -1,4 +1,3 @@
 pub mod OpenLaws
 pub mod PlaceLaws
-pub mod TurnLaws
 pub mod Kept

@@ -1,3 +1,2 @@
 pub mod OpenPoint
 pub mod PlaceGuarantee
-pub mod TurnYear

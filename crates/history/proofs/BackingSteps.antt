@@ -31,9 +31,9 @@ use Rattle.register.proofs.OrderFacts.{ordered, line-facts}
 use Rattle.register.proofs.OrderKept.{field-kept}
 use Rattle.filing.specs.OpenPoint.{openNumber, opened, openAfter}
 use Rattle.filing.specs.PlaceGuarantee.{placeNumber, pledged, placed, placeAfter}
-use Rattle.filing.specs.TurnYear.{turnNumber, settledAt, settledAccounts, turned, turnAfter}
+use Rattle.turning.specs.TurnYear.{turnNumber, settledAt, settledAccounts, turned, turnAfter}
 use Rattle.filing.proofs.OpenLaws.{facts as open-facts}
-use Rattle.filing.proofs.Kept.{settled-at}
+use Rattle.turning.proofs.Kept.{settled-at}
 use Rattle.conferral.specs.declared.bookings.Grant.{Grant}
 use Rattle.conferral.specs.Bookings.{lineOf, booked, chargeOf as grantCharge}
 use Rattle.conferral.proofs.SpanLaws.{FitFacts, span-facts}

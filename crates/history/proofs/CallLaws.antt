@@ -5,8 +5,9 @@ use Rattle.parts.specs.Registers.{State}
 use Rattle.register.specs.Sound.{Sound}
 use Rattle.filing.proofs.OpenLaws.{open-old}
 use Rattle.filing.proofs.PlaceLaws.{place-old}
-use Rattle.filing.proofs.TurnLaws.{turn-old}
-use Rattle.filing.proofs.Kept.{open-keeps, place-keeps, turn-keeps}
+use Rattle.turning.proofs.TurnLaws.{turn-old}
+use Rattle.turning.proofs.Kept.{turn-keeps}
+use Rattle.filing.proofs.Kept.{open-keeps, place-keeps}
 use Rattle.requests.proofs.AnswerLaws.{refused-after as request-old}
 use Rattle.requests.proofs.ConferredLaws.{request-keeps}
 use Rattle.batches.proofs.AnswerLaws.{refused-after as batch-old}

@@ -24,11 +24,12 @@ use Rattle.register.specs.Sound.{Sound}
 use Rattle.register.proofs.OrderKept.{field-kept}
 use Rattle.filing.specs.OpenPoint.{openNumber, opened, openAfter}
 use Rattle.filing.specs.PlaceGuarantee.{placeNumber, pledged, placed, placeAfter}
-use Rattle.filing.specs.TurnYear.{turnNumber, settledAt, settledAccounts, turned, turnAfter}
+use Rattle.turning.specs.TurnYear.{turnNumber, settledAt, settledAccounts, turned, turnAfter}
 use Rattle.filing.proofs.OpenLaws.{OpenFacts, facts as open-facts}
 use Rattle.filing.proofs.PlaceLaws.{facts as place-facts}
-use Rattle.filing.proofs.TurnLaws.{TurnFacts, facts as turn-facts}
-use Rattle.filing.proofs.Kept.{open-keeps, place-keeps, turn-keeps, settled-at}
+use Rattle.turning.proofs.TurnLaws.{TurnFacts, facts as turn-facts}
+use Rattle.turning.proofs.Kept.{turn-keeps, settled-at}
+use Rattle.filing.proofs.Kept.{open-keeps, place-keeps}
 use Rattle.history.specs.Reckoning.{Reckoning, put, grantedOn, cededBy, withOpen, withGuarantee, withNewYear}
 use Rattle.history.proofs.Agreement.{Agree, open-below}
 

@@ -10,10 +10,10 @@ use Rattle.parts.proofs.AnswerLaws.{passes, passed, leaves-new}
 use Rattle.parts.proofs.QuestionLaws.{refused-at}
 use Rattle.filing.specs.OpenPoint.{openQuestions, openNumber, opened, openAfter}
 use Rattle.filing.specs.PlaceGuarantee.{placeQuestions, placeNumber, placed, placeAfter}
-use Rattle.filing.specs.TurnYear.{turnQuestions, turnNumber, turned, turnAfter}
+use Rattle.turning.specs.TurnYear.{turnQuestions, turnNumber, turned, turnAfter}
 use Rattle.filing.proofs.OpenLaws.{open-old}
 use Rattle.filing.proofs.PlaceLaws.{place-old}
-use Rattle.filing.proofs.TurnLaws.{turn-old}
+use Rattle.turning.proofs.TurnLaws.{turn-old}
 use Rattle.history.specs.Calls.{openPoint, placeGuarantee, turnYear, answer}
 use Rattle.history.specs.Reckoning.{Reckoning}
 use Rattle.history.specs.Demand3.{Treated}

@@ -7,7 +7,7 @@ use Rattle.parts.specs.Answers.{Question, leaves}
 use Rattle.register.specs.Fresh.{freshState}
 use Rattle.filing.specs.OpenPoint.{openQuestions, openNumber, opened, openAfter}
 use Rattle.filing.specs.PlaceGuarantee.{placeQuestions, placeNumber, placed, placeAfter}
-use Rattle.filing.specs.TurnYear.{turnQuestions, turnNumber, turned, turnAfter}
+use Rattle.turning.specs.TurnYear.{turnQuestions, turnNumber, turned, turnAfter}
 use Rattle.conferral.specs.Bookings.{booked}
 use Rattle.requests.specs.declared.products.Request.{Request}
 use Rattle.requests.specs.RequestCapacity.{grantOf, amountGranted, requestQuestions, requestNumber, requestAmount, requestAfter}

@@ -2,11 +2,11 @@ use mathlib.Core.Path.{_≡_, refl, ap}
 use Prim.Native.Nat.{_-_, _≤_}
 use Rattle.amounts.specs.Ranges.{replaced}
 use Rattle.amounts.proofs.RangeLaws.{step-from-start, replaced-none, replaced-end}
-use Rattle.filing.specs.TurnYear.{settledAt, settledAccounts}
+use Rattle.turning.specs.TurnYear.{settledAt, settledAccounts}
 use native.Mathlib.Omega.{arith}
 use borrow.Author.Needs.{needs}
-use Rattle.filing.proofs.turning.settled_accounts.Statement.{statement}
-use Rattle.filing.proofs.turning.settled_accounts.Tie as tie
+use Rattle.turning.proofs.turning.settled_accounts.Statement.{statement}
+use Rattle.turning.proofs.turning.settled_accounts.Tie as tie
 
 abbrev Inv-loop : tie.InvT-loop
 Inv-loop accounts₀ settled₀ i₀ accounts settled i =

@@ -13,7 +13,7 @@ use Rattle.amounts.specs.Amounts.{daysOfYear, freedTable}
 use Rattle.parts.proofs.AnswerLaws.{passes, leaves-new, leaves-old}
 use Rattle.amounts.proofs.AmountLaws.{days-of}
 use Rattle.register.proofs.OrderFacts.{InOrder, ordered}
-use Rattle.filing.specs.TurnYear.{turnQuestions, turnNumber, turnedRegister, turned, turnAfter}
+use Rattle.turning.specs.TurnYear.{turnQuestions, turnNumber, turnedRegister, turned, turnAfter}
 
 module _ (s : State) (y : ℕ) where
   -- what an accepted turn tells

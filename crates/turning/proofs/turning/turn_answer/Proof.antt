@@ -4,11 +4,11 @@ use borrow.Author.Tests.{not-true, not-false, lt-ltb, le-ltb}
 use Rattle.calendar.specs.ThermalYears.{isThermalYear}
 use Rattle.parts.specs.Registers.{State, state}
 use Rattle.register.specs.Order.{inOrder}
-use Rattle.filing.specs.TurnYear.{turnNumber}
+use Rattle.turning.specs.TurnYear.{turnNumber}
 use native.Mathlib.Omega.{arith}
 use borrow.Author.Needs.{needs}
-use Rattle.filing.proofs.turning.turn_answer.Statement.{statement}
-use Rattle.filing.proofs.turning.turn_answer.Tie as tie
+use Rattle.turning.proofs.turning.turn_answer.Statement.{statement}
+use Rattle.turning.proofs.turning.turn_answer.Tie as tie
 
 -- what is known after each question
 abbrev asked : tie.Start → State

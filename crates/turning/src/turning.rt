@@ -2,7 +2,7 @@
 ghost use mathlib.Core.Path.{_≡_};
 ghost use Rattle.parts.specs.Registers.{state};
 ghost use Rattle.parts.specs.Answers.{numberOfVerdict};
-ghost use Rattle.filing.specs.TurnYear.{turnNumber, settledAccounts, turnedRegister, turnAfter};
+ghost use Rattle.turning.specs.TurnYear.{turnNumber, settledAccounts, turnedRegister, turnAfter};
 use register::Account;
 use register::Filed;
 use register::Refusal;

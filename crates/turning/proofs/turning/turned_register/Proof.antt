@@ -1,6 +1,6 @@
 use borrow.Author.Needs.{needs}
-use Rattle.filing.proofs.turning.turned_register.Statement.{statement}
-use Rattle.filing.proofs.turning.turned_register.Tie as tie
+use Rattle.turning.proofs.turning.turned_register.Statement.{statement}
+use Rattle.turning.proofs.turning.turned_register.Tie as tie
 
 settled-accounts-requires : tie.Need-settled-accounts-requires
 settled-accounts-requires c κs = search needs

@@ -1,8 +1,8 @@
 use Rattle.parts.proofs.AnswerLaws.{zero-number, some-number}
-use Rattle.filing.proofs.TurnLaws.{turn-new, turn-old}
+use Rattle.turning.proofs.TurnLaws.{turn-new, turn-old}
 use borrow.Author.Needs.{needs}
-use Rattle.filing.proofs.turning.turn_year.Statement.{statement}
-use Rattle.filing.proofs.turning.turn_year.Tie as tie
+use Rattle.turning.proofs.turning.turn_year.Statement.{statement}
+use Rattle.turning.proofs.turning.turn_year.Tie as tie
 
 turn-answer-requires : tie.Need-turn-answer-requires
 turn-answer-requires c κs = search needs
