@@ -10,7 +10,7 @@ use Rattle.parts.specs.Answers.{leaves}
 use Rattle.history.specs.declared.changes.Change.{Change}
 use Rattle.batches.specs.Batches.{Batch}
 use Rattle.batches.specs.ConferBatch.{batchNumber, sharesOf, numbersOf, sharesAfter, numbersAfter}
-use Rattle.history.specs.Calls.{Call, conferBatch, answer, after}
+use Rattle.reckoning.specs.Calls.{Call, conferBatch, answer, after}
 use Rattle.history.specs.Changes.{callOf, sharesLeft, numbersLeft}
 
 -- number, amount, state, shares and numbers of a call made on s

@@ -6,7 +6,7 @@ use Rattle.parts.specs.Answers.{leaves}
 use Rattle.batches.specs.Batches.{batch}
 use Rattle.history.specs.declared.changes.Change.{Change}
 use Rattle.history.specs.declared.changes.Change.the-variants.{OpenPoint, PlaceGuarantee, RequestCapacity, ConferBatch, CedeCapacity, TurnYear}
-use Rattle.history.specs.Calls.{Call, openPoint, placeGuarantee, requestCapacity, conferBatch, cedeCapacity, turnYear, Answer}
+use Rattle.reckoning.specs.Calls.{Call, openPoint, placeGuarantee, requestCapacity, conferBatch, cedeCapacity, turnYear, Answer}
 
 -- the call: users and asked amounts are those of the lent lists, and the two that are written have m and n places. Only a batch looks at
 -- them

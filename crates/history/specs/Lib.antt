@@ -1,6 +1,1 @@
-pub mod Calls
-pub mod Reckoning
-pub mod Reasons
-pub mod Demand3
 pub mod Changes
-pub mod Cases

@@ -5,7 +5,7 @@ ghost use Rattle.parts.specs.Registers.{state};
 ghost use Rattle.parts.specs.Answers.{numberOfVerdict};
 ghost use Rattle.requests.specs.RequestCapacity.{numberOfConferral, amountOfConferral};
 ghost use Rattle.cessions.specs.CedeCapacity.{numberOfAnswer, amountOfAnswer};
-ghost use Rattle.history.specs.Calls.{answer, after};
+ghost use Rattle.reckoning.specs.Calls.{answer, after};
 ghost use Rattle.history.specs.Changes.{callOf, sharesLeft, numbersLeft};
 use cessions::Ceded;
 use cessions::Cession;

@@ -1,7 +1,7 @@
-// Every changing call as one function over an enum, and demand 3 over every list of them.
+// Every changing call as one function over an enum.
 //
-// `apply` is the code that the theorem speaks of: its contract is `answer` and `after` of specs/Calls.antt themselves, and
-// proofs/Theorem.antt has the theorem. No function that another crate can name has a `requires`.
+// `apply` is the code that the theorem of `reckoning` speaks of: its contract is `answer` and `after` of specs/Calls.antt there. No
+// function that another crate can name has a `requires`.
 mod changes;
 
 pub use changes::Applied;

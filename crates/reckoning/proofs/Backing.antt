@@ -28,8 +28,8 @@ use Rattle.cessions.specs.CedeCapacity.{giverOf, spanFirst, spanLast, isInYear,
 use Rattle.cessions.proofs.CessionLaws.{fields}
 use Rattle.cessions.proofs.MovedLaws.{holds}
 use Rattle.cessions.proofs.RefusalLaws.{not-in-order}
-use Rattle.history.proofs.Agreement.{at-each}
-use Rattle.history.proofs.BackingSums.{chargeHeld, held-none, held-least}
+use Rattle.reckoning.proofs.Agreement.{at-each}
+use Rattle.reckoning.proofs.BackingSums.{chargeHeld, held-none, held-least}
 
 -- what user u holds at point p on gas-day d, as a number
 abbrev pub holding : State → ℕ → ℕ → ℕ → ℕ

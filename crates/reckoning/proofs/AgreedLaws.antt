@@ -19,9 +19,9 @@ use Rattle.register.proofs.OrderFacts.{ordered, Absent, OnFile, account-is}
 use Rattle.conferral.specs.Spans.{annualFirst, annualLast}
 use Rattle.cessions.specs.declared.ceding.Cession.{Cession}
 use Rattle.cessions.specs.CedeCapacity.{chargeOf}
-use Rattle.history.specs.Reckoning.{Reckoning, freeBy, cededCharge}
-use Rattle.history.specs.Reasons.{Covered, LinesLeft, Uncovered, LinesShort}
-use Rattle.history.proofs.Agreement.{Agree, at-each}
+use Rattle.reckoning.specs.Reckoning.{Reckoning, freeBy, cededCharge}
+use Rattle.reckoning.specs.Reasons.{Covered, LinesLeft, Uncovered, LinesShort}
+use Rattle.reckoning.proofs.Agreement.{Agree, at-each}
 
 module _ (s : State) (k : Reckoning) (w : Agree s k) where
   -- question 1 is answered yes

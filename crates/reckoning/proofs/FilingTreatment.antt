@@ -14,12 +14,12 @@ use Rattle.turning.specs.TurnYear.{turnQuestions, turnNumber, turned, turnAfter
 use Rattle.filing.proofs.OpenLaws.{open-old}
 use Rattle.filing.proofs.PlaceLaws.{place-old}
 use Rattle.turning.proofs.TurnLaws.{turn-old}
-use Rattle.history.specs.Calls.{openPoint, placeGuarantee, turnYear, answer}
-use Rattle.history.specs.Reckoning.{Reckoning}
-use Rattle.history.specs.Demand3.{Treated}
-use Rattle.history.proofs.Agreement.{Agree}
-use Rattle.history.proofs.NumberLaws.{among}
-use Rattle.history.proofs.AgreedLaws.{never-disordered, open-by}
+use Rattle.reckoning.specs.Calls.{openPoint, placeGuarantee, turnYear, answer}
+use Rattle.reckoning.specs.Reckoning.{Reckoning}
+use Rattle.reckoning.specs.Demand3.{Treated}
+use Rattle.reckoning.proofs.Agreement.{Agree}
+use Rattle.reckoning.proofs.NumberLaws.{among}
+use Rattle.reckoning.proofs.AgreedLaws.{never-disordered, open-by}
 
 module _ (s : State) (k : Reckoning) (w : Agree s k) where
   pub open-treated : (p kind total rate : ℕ) → Treated s k (openPoint p kind total rate) (answer s (openPoint p kind total rate))

@@ -10,9 +10,9 @@ use Rattle.parts.specs.Registers.{State, accountAt}
 use Rattle.parts.specs.Answers.{Passes}
 use Rattle.register.specs.Order.{inOrder}
 use Rattle.register.specs.Reports.{reportNumber, reportAmount}
-use Rattle.history.specs.Calls.{Call, Answer, questions, answer, done, after, registerAfter}
-use Rattle.history.specs.Reckoning.{Reckoning, grantedOn, charges, cededBy, reckoned}
-use Rattle.history.specs.Reasons.{Rule, Grounds, Reasons}
+use Rattle.reckoning.specs.Calls.{Call, Answer, questions, answer, done, after, registerAfter}
+use Rattle.reckoning.specs.Reckoning.{Reckoning, grantedOn, charges, cededBy, reckoned}
+use Rattle.reckoning.specs.Reasons.{Rule, Grounds, Reasons}
 
 -- What holds after a list: s is the register and the lists that it left, k its reckoning.
 pub record Balances (s : State) (k : Reckoning) : Type 0 where

@@ -17,13 +17,13 @@ use Rattle.requests.specs.RequestCapacity.{spanFirst, spanLast, pointOf, charge
 use Rattle.requests.proofs.AnswerLaws.{answered-passes, passes-answered, facts, accepted-amount, accepted-after, refused-amount, refused-after}
 use Rattle.requests.proofs.RefusalLaws.{refused-by, not-covered, nothing-free, ledger-full}
 use Rattle.requests.proofs.ConferredLaws.{granted-some, granted-least, cut-due}
-use Rattle.history.specs.Calls.{requestCapacity, answer}
-use Rattle.history.specs.Reckoning.{Reckoning}
-use Rattle.history.specs.Reasons.{InSpan, freeFor, Fair, RequestGrounds, NothingFree, requestCharge}
-use Rattle.history.specs.Demand3.{Treated}
-use Rattle.history.proofs.Agreement.{Agree}
-use Rattle.history.proofs.NumberLaws.{among}
-use Rattle.history.proofs.AgreedLaws.{never-disordered, open-by, charge-by, covered, uncovered, unfiled, lines-left, lines-short, free-by}
+use Rattle.reckoning.specs.Calls.{requestCapacity, answer}
+use Rattle.reckoning.specs.Reckoning.{Reckoning}
+use Rattle.reckoning.specs.Reasons.{InSpan, freeFor, Fair, RequestGrounds, NothingFree, requestCharge}
+use Rattle.reckoning.specs.Demand3.{Treated}
+use Rattle.reckoning.proofs.Agreement.{Agree}
+use Rattle.reckoning.proofs.NumberLaws.{among}
+use Rattle.reckoning.proofs.AgreedLaws.{never-disordered, open-by, charge-by, covered, uncovered, unfiled, lines-left, lines-short, free-by}
 
 -- a span by its year
 abbrev InSpanOf : Request → ℕ → ℕ → Type 0

@@ -24,8 +24,8 @@ use Rattle.batches.specs.Shares.{proQuota}
 use Rattle.batches.specs.ConferBatch.{batchFields}
 use Rattle.cessions.specs.declared.ceding.Cession.{Cession}
 use Rattle.cessions.specs.CedeCapacity.{cessionFields, isInTime as isCessionInTime}
-use Rattle.history.specs.Calls.{Call, openPoint, placeGuarantee, requestCapacity, conferBatch, cedeCapacity, turnYear, Answer}
-use Rattle.history.specs.Reckoning.{Reckoning, freeBy, charges, cededBy, linesUsed, spanFirst, spanLast, cededCharge}
+use Rattle.reckoning.specs.Calls.{Call, openPoint, placeGuarantee, requestCapacity, conferBatch, cedeCapacity, turnYear, Answer}
+use Rattle.reckoning.specs.Reckoning.{Reckoning, freeBy, charges, cededBy, linesUsed, spanFirst, spanLast, cededCharge}
 
 -- ---- what was granted
 -- d is a day of the request's span

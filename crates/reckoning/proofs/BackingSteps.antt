@@ -55,10 +55,10 @@ use Rattle.cessions.specs.CedeCapacity.{spanFirst, spanLast, chargeOf, cessionN
 use Rattle.cessions.proofs.AnswerLaws.{CessionFacts, facts}
 use Rattle.cessions.proofs.CededLaws.{CededIn, cession-ceded}
 use Rattle.cessions.proofs.MovedLaws.{holds, held-other, giver-holds, receiver-holds}
-use Rattle.history.proofs.Agreement.{at-each}
-use Rattle.history.proofs.GrantSteps.{chosen, left-out}
-use Rattle.history.proofs.BackingSums.{held-same, held-rates, held-more}
-use Rattle.history.proofs.Backing.{holding, rateOf, chargeInYear, Backed, as-number, in-days, backed-empty, giver-has}
+use Rattle.reckoning.proofs.Agreement.{at-each}
+use Rattle.reckoning.proofs.GrantSteps.{chosen, left-out}
+use Rattle.reckoning.proofs.BackingSums.{held-same, held-rates, held-more}
+use Rattle.reckoning.proofs.Backing.{holding, rateOf, chargeInYear, Backed, as-number, in-days, backed-empty, giver-has}
 
 -- ---- lines of other points
 -- a signed sum of nothing but zeros

@@ -24,9 +24,9 @@ use Rattle.requests.specs.Products.{firstOf, lastOf}
 use Rattle.requests.specs.RequestCapacity.{grantOf, requestNumber, requestAmount, requestAfter}
 use Rattle.requests.proofs.AnswerLaws.{facts}
 use Rattle.requests.proofs.ConferredLaws.{request-booked}
-use Rattle.history.specs.Calls.{requestCapacity, answer}
-use Rattle.history.specs.Reckoning.{GrantEntry, Reckoning, grantCovers, grantedOn, charges, cededBy, grantTo, entered}
-use Rattle.history.proofs.Agreement.{Agree, open-below}
+use Rattle.reckoning.specs.Calls.{requestCapacity, answer}
+use Rattle.reckoning.specs.Reckoning.{GrantEntry, Reckoning, grantCovers, grantedOn, charges, cededBy, grantTo, entered}
+use Rattle.reckoning.proofs.Agreement.{Agree, open-below}
 
 -- what a choice between an amount and nothing is
 pub chosen : (b : Bool) (n : ℕ) → b ≡ true → cond b n 0 ≡ n

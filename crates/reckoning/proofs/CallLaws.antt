@@ -14,7 +14,7 @@ use Rattle.batches.proofs.AnswerLaws.{refused-after as batch-old}
 use Rattle.batches.proofs.BookedLaws.{batch-keeps}
 use Rattle.cessions.proofs.AnswerLaws.{refused-after as cession-old}
 use Rattle.cessions.proofs.CededLaws.{cession-keeps}
-use Rattle.history.specs.Calls.{Call, openPoint, placeGuarantee, requestCapacity, conferBatch, cedeCapacity, turnYear, answer, after}
+use Rattle.reckoning.specs.Calls.{Call, openPoint, placeGuarantee, requestCapacity, conferBatch, cedeCapacity, turnYear, answer, after}
 
 -- "A refused call alters nothing."
 pub unaltered : (s : State) (c : Call) → (answer s c .number ≡ 0 → ⊥) → s ≡ after s c

@@ -46,8 +46,8 @@ use Rattle.batches.specs.ConferBatch.{batchFields, batchNumber, sharesOf, numbe
 use Rattle.batches.proofs.AnswerLaws.{passes-answered}
 use Rattle.batches.proofs.ShareLaws.{free-of-year-is, list-at}
 use Rattle.batches.proofs.Cases.{p11, p12}
-use Rattle.history.specs.Calls.{Answer, toldBatch, placeGuarantee, conferBatch, answer, registerAfter}
-use Rattle.history.specs.Cases.{opening, registerOfOne, ample, registerOfThree, annualOfTen, batchOfThree, batchOfTwo, ProvedCases}
+use Rattle.reckoning.specs.Calls.{Answer, toldBatch, placeGuarantee, conferBatch, answer, registerAfter}
+use Rattle.reckoning.specs.Cases.{opening, registerOfOne, ample, registerOfThree, annualOfTen, batchOfThree, batchOfTwo, ProvedCases}
 
 -- ---- the register of the cases
 -- a user on file who has nothing committed

@@ -22,8 +22,8 @@ use Rattle.register.specs.Sound.{Sound}
 use Rattle.register.proofs.FreshKept.{fresh-sound}
 use Rattle.register.proofs.OrderFacts.{ordered, commitment-le}
 use Rattle.register.proofs.ReportLaws.{report-facts, report-free, report-none}
-use Rattle.history.specs.Reckoning.{Reckoning, grantedOn, charges, cededBy, linesUsed, begin}
-use Rattle.history.specs.Demand3.{Balances}
+use Rattle.reckoning.specs.Reckoning.{Reckoning, grantedOn, charges, cededBy, linesUsed, begin}
+use Rattle.reckoning.specs.Demand3.{Balances}
 
 pub record Agree (s : State) (k : Reckoning) : Type 0 where
   pub sound : Sound s

@@ -15,9 +15,9 @@ use Rattle.conferral.proofs.BookedLaws.{Bookable, booked-in}
 use Rattle.batches.specs.Batches.{Batch, linesOf, userOf, grantOf}
 use Rattle.batches.specs.Shares.{shareOf}
 use Rattle.batches.specs.ConferBatch.{bookedIf, bookedLines}
-use Rattle.history.specs.Reckoning.{Reckoning, grantTo, grantIf, grantLines}
-use Rattle.history.proofs.Agreement.{Agree}
-use Rattle.history.proofs.GrantSteps.{agree-grant}
+use Rattle.reckoning.specs.Reckoning.{Reckoning, grantTo, grantIf, grantLines}
+use Rattle.reckoning.proofs.Agreement.{Agree}
+use Rattle.reckoning.proofs.GrantSteps.{agree-grant}
 
 -- the year of the reckoning stays
 if-year : (k : Reckoning) (u p share : ℕ) → grantIf k u p share .year ≡ k .year

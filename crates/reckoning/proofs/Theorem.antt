@@ -8,13 +8,13 @@ use Rattle.calendar.specs.ThermalYears.{isThermalYear}
 use Rattle.parts.specs.Registers.{state, blankRegister}
 use Rattle.parts.proofs.AnswerLaws.{leaves-new}
 use Rattle.register.specs.Fresh.{freshNumber, freshState, freshAfter}
-use Rattle.history.specs.Calls.{Call, afterAll, answers}
-use Rattle.history.specs.Reckoning.{reckon, begin}
-use Rattle.history.specs.Demand3.{Demand3}
-use Rattle.history.proofs.Agreement.{Agree, agree-fresh, balances}
-use Rattle.history.proofs.BackedCalls.{list-backed}
-use Rattle.history.proofs.Treatment.{treated}
-use Rattle.history.proofs.ListSteps.{list-agrees}
+use Rattle.reckoning.specs.Calls.{Call, afterAll, answers}
+use Rattle.reckoning.specs.Reckoning.{reckon, begin}
+use Rattle.reckoning.specs.Demand3.{Demand3}
+use Rattle.reckoning.proofs.Agreement.{Agree, agree-fresh, balances}
+use Rattle.reckoning.proofs.BackedCalls.{list-backed}
+use Rattle.reckoning.proofs.Treatment.{treated}
+use Rattle.reckoning.proofs.ListSteps.{list-agrees}
 
 pub demand-3 : (y : ℕ) → isThermalYear y ≡ true → (cs : List Call) → Demand3 y cs
 demand-3 y h cs =

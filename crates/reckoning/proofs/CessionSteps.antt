@@ -17,10 +17,10 @@ use Rattle.cessions.specs.declared.ceding.Cession.{Cession}
 use Rattle.cessions.specs.CedeCapacity.{chargeOf, cessionNumber, cessionAfter}
 use Rattle.cessions.proofs.AnswerLaws.{facts}
 use Rattle.cessions.proofs.CededLaws.{CededIn, cession-ceded}
-use Rattle.history.specs.Reckoning.{Reckoning, charges, cededBy, cededCharge, grantedOn, entered}
-use Rattle.history.specs.Calls.{cedeCapacity, answer}
-use Rattle.history.proofs.Agreement.{Agree}
-use Rattle.history.proofs.AgreedLaws.{charge-ceded}
+use Rattle.reckoning.specs.Reckoning.{Reckoning, charges, cededBy, cededCharge, grantedOn, entered}
+use Rattle.reckoning.specs.Calls.{cedeCapacity, answer}
+use Rattle.reckoning.proofs.Agreement.{Agree}
+use Rattle.reckoning.proofs.AgreedLaws.{charge-ceded}
 
 module _ (s : State) (k : Reckoning) (c : Cession) (a : Agree s k) (z : cessionNumber s c ≡ 0) where
   abbrev t : State

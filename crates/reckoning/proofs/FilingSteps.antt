@@ -30,8 +30,8 @@ use Rattle.filing.proofs.PlaceLaws.{facts as place-facts}
 use Rattle.turning.proofs.TurnLaws.{TurnFacts, facts as turn-facts}
 use Rattle.turning.proofs.Kept.{turn-keeps, settled-at}
 use Rattle.filing.proofs.Kept.{open-keeps, place-keeps}
-use Rattle.history.specs.Reckoning.{Reckoning, put, grantedOn, cededBy, withOpen, withGuarantee, withNewYear}
-use Rattle.history.proofs.Agreement.{Agree, open-below}
+use Rattle.reckoning.specs.Reckoning.{Reckoning, put, grantedOn, cededBy, withOpen, withGuarantee, withNewYear}
+use Rattle.reckoning.proofs.Agreement.{Agree, open-below}
 
 -- a function with another value at one place
 pub put-same : {A : Type 0} (f : ℕ → A) (i : ℕ) (v : A) (j : ℕ) → j ≡ i → put f i v j ≡ v

@@ -23,13 +23,13 @@ use Rattle.batches.specs.ConferBatch.{batchQuestions, batchNumber, sharesOf, nu
 use Rattle.batches.proofs.AnswerLaws.{answered-passes, passes-answered, facts, accepted-after, refused-after}
 use Rattle.batches.proofs.ShareLaws.{line-facts, share-sum, free-of-year-le, free-of-year-is, list-at, list-length}
 use Rattle.batches.proofs.RefusalLaws.{refused-by, ledger-full, line-refused-by, line-repeated, line-not-covered, line-nothing-free, line-answered}
-use Rattle.history.specs.Calls.{Answer, conferBatch, answer}
-use Rattle.history.specs.Reckoning.{Reckoning}
-use Rattle.history.specs.Reasons.{FairShares, linePassed, askedIfPassed, lineCharge, LineGrounds, BatchGrounds, Uncovered, oneOf, LineReasons}
-use Rattle.history.specs.Demand3.{Treated}
-use Rattle.history.proofs.Agreement.{Agree}
-use Rattle.history.proofs.NumberLaws.{among, among-lines}
-use Rattle.history.proofs.AgreedLaws.{never-disordered, open-by, day-by, charge-by, covered, uncovered, unfiled, lines-left, lines-short, free-by}
+use Rattle.reckoning.specs.Calls.{Answer, conferBatch, answer}
+use Rattle.reckoning.specs.Reckoning.{Reckoning}
+use Rattle.reckoning.specs.Reasons.{FairShares, linePassed, askedIfPassed, lineCharge, LineGrounds, BatchGrounds, Uncovered, oneOf, LineReasons}
+use Rattle.reckoning.specs.Demand3.{Treated}
+use Rattle.reckoning.proofs.Agreement.{Agree}
+use Rattle.reckoning.proofs.NumberLaws.{among, among-lines}
+use Rattle.reckoning.proofs.AgreedLaws.{never-disordered, open-by, day-by, charge-by, covered, uncovered, unfiled, lines-left, lines-short, free-by}
 
 -- ---- the number of a line, by its share
 -- 0 and 12 are what a line is given that passed its questions

@@ -15,14 +15,14 @@ use Rattle.batches.specs.Shares.{shareOf}
 use Rattle.batches.proofs.AnswerLaws.{accepted-after}
 use Rattle.batches.proofs.ShareLaws.{list-at}
 use Rattle.batches.proofs.BookedLaws.{bookable-line}
-use Rattle.history.specs.Calls.{Call, openPoint, placeGuarantee, requestCapacity, conferBatch, cedeCapacity, turnYear, answer, after, afterAll, answers}
-use Rattle.history.specs.Reckoning.{Reckoning, entered, enter, reckon}
-use Rattle.history.proofs.Agreement.{Agree}
-use Rattle.history.proofs.GrantSteps.{agree-request}
-use Rattle.history.proofs.FilingSteps.{agree-open, agree-place, agree-turn}
-use Rattle.history.proofs.CessionSteps.{agree-cession}
-use Rattle.history.proofs.BatchSteps.{lines-agree}
-use Rattle.history.proofs.CallLaws.{unaltered}
+use Rattle.reckoning.specs.Calls.{Call, openPoint, placeGuarantee, requestCapacity, conferBatch, cedeCapacity, turnYear, answer, after, afterAll, answers}
+use Rattle.reckoning.specs.Reckoning.{Reckoning, entered, enter, reckon}
+use Rattle.reckoning.proofs.Agreement.{Agree}
+use Rattle.reckoning.proofs.GrantSteps.{agree-request}
+use Rattle.reckoning.proofs.FilingSteps.{agree-open, agree-place, agree-turn}
+use Rattle.reckoning.proofs.CessionSteps.{agree-cession}
+use Rattle.reckoning.proofs.BatchSteps.{lines-agree}
+use Rattle.reckoning.proofs.CallLaws.{unaltered}
 
 -- a batch, by the shares that it answers
 agree-batch : (s : State) (k : Reckoning) (b : Batch) (m n : ℕ) → Agree s k → batchNumber s b m n ≡ 0

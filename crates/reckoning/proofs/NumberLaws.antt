@@ -9,7 +9,7 @@ use borrow.Author.Tests.{eq-eqb}
 use Rattle.parts.specs.Answers.{Question, _asks_, numberOf}
 use Rattle.parts.proofs.TestLaws.{or-left, or-right}
 use Rattle.batches.specs.Shares.{numberIf}
-use Rattle.history.specs.Reasons.{oneOf}
+use Rattle.reckoning.specs.Reasons.{oneOf}
 
 -- the numbers of the questions
 abbrev pub numbersAsked : List Question → List ℕ

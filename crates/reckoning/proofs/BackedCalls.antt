@@ -10,10 +10,10 @@ use Rattle.parts.specs.Registers.{State}
 use Rattle.register.specs.Fresh.{freshState}
 use Rattle.register.specs.Sound.{Sound}
 use Rattle.register.proofs.FreshKept.{fresh-sound}
-use Rattle.history.specs.Calls.{Call, openPoint, placeGuarantee, requestCapacity, conferBatch, cedeCapacity, turnYear, answer, after, afterAll, registerAfter}
-use Rattle.history.proofs.CallLaws.{unaltered, call-sound}
-use Rattle.history.proofs.Backing.{Backed, backed-fresh}
-use Rattle.history.proofs.BackingSteps.{backed-open, backed-place, backed-turn, backed-request, backed-batch, backed-cession}
+use Rattle.reckoning.specs.Calls.{Call, openPoint, placeGuarantee, requestCapacity, conferBatch, cedeCapacity, turnYear, answer, after, afterAll, registerAfter}
+use Rattle.reckoning.proofs.CallLaws.{unaltered, call-sound}
+use Rattle.reckoning.proofs.Backing.{Backed, backed-fresh}
+use Rattle.reckoning.proofs.BackingSteps.{backed-open, backed-place, backed-turn, backed-request, backed-batch, backed-cession}
 
 -- a call answered 0
 accepted-backed : (s : State) (c : Call) → Sound s → Backed s → answer s c .number ≡ 0 → Backed (after s c)

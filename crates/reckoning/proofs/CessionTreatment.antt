@@ -12,14 +12,14 @@ use Rattle.cessions.specs.declared.ceding.Cession.{Cession}
 use Rattle.cessions.specs.CedeCapacity.{giverOf, receiverOf, bothOnFile, isInYear, chargeOf, cessionQuestions, cessionNumber}
 use Rattle.cessions.proofs.AnswerLaws.{answered-passes, passes-answered, facts, accepted-amount, accepted-after, refused-amount, refused-after}
 use Rattle.cessions.proofs.RefusalLaws.{refused-by, not-covered, ledger-full}
-use Rattle.history.specs.Calls.{cedeCapacity, answer}
-use Rattle.history.specs.Reckoning.{Reckoning, cededCharge}
-use Rattle.history.specs.Reasons.{CessionGrounds}
-use Rattle.history.specs.Demand3.{Treated}
-use Rattle.history.proofs.Agreement.{Agree}
-use Rattle.history.proofs.NumberLaws.{among}
-use Rattle.history.proofs.Backing.{Backed, never-below}
-use Rattle.history.proofs.AgreedLaws.{open-by, charge-ceded, covered, uncovered, unfiled, lines-left, lines-short}
+use Rattle.reckoning.specs.Calls.{cedeCapacity, answer}
+use Rattle.reckoning.specs.Reckoning.{Reckoning, cededCharge}
+use Rattle.reckoning.specs.Reasons.{CessionGrounds}
+use Rattle.reckoning.specs.Demand3.{Treated}
+use Rattle.reckoning.proofs.Agreement.{Agree}
+use Rattle.reckoning.proofs.NumberLaws.{among}
+use Rattle.reckoning.proofs.Backing.{Backed, never-below}
+use Rattle.reckoning.proofs.AgreedLaws.{open-by, charge-ceded, covered, uncovered, unfiled, lines-left, lines-short}
 
 module _ (s : State) (k : Reckoning) (w : Agree s k) (backed : Backed s) (c : Cession) where
   -- one of the two is not on file
