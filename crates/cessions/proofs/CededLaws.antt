@@ -30,7 +30,7 @@ use Rattle.register.proofs.LineLaws.{annual-last}
 use Rattle.register.proofs.OrderFacts.{InOrder, in-order, guarantee-le, commitment-le, on-file-ok, line-ok}
 use Rattle.register.proofs.OrderKept.{set-keeps, account-same, account-other, field-kept, line-carry}
 use Rattle.conferral.specs.Bookings.{committed}
-use Rattle.conferral.proofs.SpanLaws.{SpanFacts, span-facts}
+use Rattle.spans.proofs.SpanLaws.{SpanFacts, span-facts}
 use Rattle.conferral.proofs.BookedLaws.{amount-fits, amount-ok, line-keeps}
 use Rattle.cessions.specs.declared.ceding.Cession.{Cession}
 use Rattle.cessions.specs.CedeCapacity.{giverOf, receiverOf, spanFirst, spanLast, chargeOf, annualLine, minusLine, plusLine, cessionNumber, ceded, cessionAfter}

@@ -17,10 +17,10 @@ use Rattle.parts.specs.Registers.{accountAt, withAccount}
 use Rattle.parts.specs.Charges.{discharged}
 use Rattle.parts.specs.Answers.{Question, numberOf}
 use Rattle.register.proofs.OrderKept.{account-other}
-use Rattle.conferral.specs.Spans.{arrives, annualAnswer}
+use Rattle.spans.specs.Spans.{arrives, annualAnswer}
 use Rattle.conferral.specs.declared.bookings.Grant.{Grant}
 use Rattle.conferral.specs.Bookings.{committed, chargeWithin}
-use Rattle.conferral.proofs.SpanLaws.{SpanFacts, span-facts, arrival-year}
+use Rattle.spans.proofs.SpanLaws.{SpanFacts, span-facts, arrival-year}
 use Rattle.conferral.proofs.RoomLaws.{charge-within}
 use Rattle.holdings.specs.declared.holdings.Holding.{Holding}
 use Rattle.holdings.specs.declared.holdings.Held.{Held}

@@ -20,7 +20,7 @@ use Rattle.parts.specs.Points.{isOpen}
 use Rattle.parts.specs.Accounts.{isOnFile}
 use Rattle.register.specs.Order.{inOrder}
 use Rattle.parts.specs.Answers.{numberOfRefusal, Question, _asks_, numberOf, leaves}
-use Rattle.conferral.specs.Spans.{annualFirst, annualLast, spanOk}
+use Rattle.spans.specs.Spans.{annualFirst, annualLast, spanOk}
 use Rattle.conferral.specs.Bookings.{covers, linesLeft, withCharge}
 use Rattle.holdings.specs.declared.holdings.Holding.{Holding}
 use Rattle.holdings.specs.Holdings.{holdsThroughout}

@@ -7,7 +7,7 @@ use mathlib.Core.List.{List}
 use Rattle.calendar.specs.declared.thermal_years.Span.{Span}
 use Rattle.parts.specs.declared.registers.Register.{Register}
 use Rattle.parts.specs.Answers.{numberOfRefusal, Question, numberOf}
-use Rattle.conferral.specs.Spans.{annualFirst, annualLast, spanOk, spanWhere}
+use Rattle.spans.specs.Spans.{annualFirst, annualLast, spanOk, spanWhere}
 use Rattle.cessions.specs.declared.ceding.Cession.{Cession}
 use Rattle.cessions.specs.declared.ceding.Handover.{Handover}
 use Rattle.cessions.specs.declared.ceding.Decision.{Decision}

@@ -1,3 +1,2 @@
-pub mod SpanLaws
 pub mod RoomLaws
 pub mod BookedLaws

@@ -22,9 +22,9 @@ use Rattle.parts.proofs.TestLaws.{every-at}
 use Rattle.amounts.proofs.CalendarLaws.{year-facts, day-in}
 use Rattle.amounts.proofs.AmountLaws.{entry-in}
 use Rattle.conferral.specs.declared.bookings.Grant.{Grant}
-use Rattle.conferral.specs.Spans.{spanFits}
+use Rattle.spans.specs.Spans.{spanFits}
 use Rattle.conferral.specs.Bookings.{covers, linesLeft, daysOf, chargeOf, committed, withCharge, lineOf, booked, limitTests, withinLimits, chargeWithin, isCovered, hasRoom, bookAfter}
-use Rattle.conferral.proofs.SpanLaws.{FitFacts, fit-facts, span-fits}
+use Rattle.spans.proofs.SpanLaws.{FitFacts, fit-facts, span-fits}
 
 -- tests that hold of the same numbers are the same
 pub same-leb : (a b c d : ℕ) → (a ≤ b → c ≤ d) → (c ≤ d → a ≤ b) → leb a b ≡ leb c d

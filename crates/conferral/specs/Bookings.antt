@@ -16,7 +16,7 @@ use Rattle.register.specs.Ledger.{withLine}
 use Rattle.amounts.specs.Amounts.{spanDays, entryOf, taken}
 use Rattle.parts.specs.Charges.{charge, mostWord}
 use Rattle.conferral.specs.declared.bookings.Grant.{Grant}
-use Rattle.conferral.specs.Spans.{spanInYear}
+use Rattle.spans.specs.Spans.{spanInYear}
 
 -- question 11: "Does the guarantee cover commitment plus charge"
 abbrev pub covers : Account → ℕ → Bool

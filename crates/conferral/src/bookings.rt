@@ -7,11 +7,11 @@ ghost use Rattle.parts.specs.Limits.{rowLength, mostAmount};
 ghost use Rattle.parts.specs.Registers.{state, withLines};
 ghost use Rattle.parts.specs.Charges.{charge};
 ghost use Rattle.conferral.specs.Bookings.{covers, daysOf, chargeOf, committed, withCharge, lineOf, withinLimits, chargeWithin, isCovered, hasRoom, bookAfter};
-use crate::spans::is_span;
 use register::Account;
 use register::Line;
 use register::Point;
 use register::Register;
+use spans::is_span;
 
 // An amount granted to a user at a point, on each day from first to last. The kind is that of its ledger line: 1 annual, 2 month,
 // 3 day.

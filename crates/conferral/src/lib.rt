@@ -1,9 +1,8 @@
-// What the calls that confer or move capacity share: when a call may arrive, the span to the year's end, charges, what a guarantee
-// covers, and how a grant is booked.
+// What the calls that confer or move capacity share: charges, what a guarantee covers, and how a grant is booked; and, passed on from
+// `spans`, when a call may arrive and the span to the year's end.
 //
 // No function that another crate can name has a `requires`. The meaning of each answer is in specs/.
 mod bookings;
-mod spans;
 
 pub use bookings::Grant;
 pub use bookings::book;

@@ -16,7 +16,7 @@ use Rattle.parts.specs.Points.{isOpen}
 use Rattle.parts.specs.Accounts.{isOnFile}
 use Rattle.register.specs.Order.{inOrder}
 use Rattle.register.proofs.OrderFacts.{ordered, Absent, OnFile, account-is}
-use Rattle.conferral.specs.Spans.{annualFirst, annualLast}
+use Rattle.spans.specs.Spans.{annualFirst, annualLast}
 use Rattle.cessions.specs.declared.ceding.Cession.{Cession}
 use Rattle.cessions.specs.CedeCapacity.{chargeOf}
 use Rattle.reckoning.specs.Reckoning.{Reckoning, freeBy, cededCharge}

@@ -20,7 +20,7 @@ use Rattle.amounts.specs.Amounts.{spanDays, yearDays}
 use Rattle.parts.proofs.TestLaws.{all-at}
 use Rattle.register.specs.Fresh.{freshState}
 use Rattle.register.specs.Sound.{Sound}
-use Rattle.conferral.proofs.SpanLaws.{FitFacts, span-facts}
+use Rattle.spans.proofs.SpanLaws.{FitFacts, span-facts}
 use Rattle.holdings.specs.Holdings.{signedSum, partAt, heldOn, holdsOn, holdsThroughout}
 use Rattle.holdings.proofs.SumLaws.{sum-none}
 use Rattle.cessions.specs.declared.ceding.Cession.{Cession}

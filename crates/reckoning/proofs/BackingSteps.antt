@@ -36,7 +36,7 @@ use Rattle.filing.proofs.OpenLaws.{facts as open-facts}
 use Rattle.turning.proofs.Kept.{settled-at}
 use Rattle.conferral.specs.declared.bookings.Grant.{Grant}
 use Rattle.conferral.specs.Bookings.{lineOf, booked, chargeOf as grantCharge}
-use Rattle.conferral.proofs.SpanLaws.{FitFacts, span-facts}
+use Rattle.spans.proofs.SpanLaws.{FitFacts, span-facts}
 use Rattle.conferral.proofs.RoomLaws.{LimitFacts}
 use Rattle.conferral.proofs.BookedLaws.{Bookable, BookedIn, booked-in}
 use Rattle.holdings.specs.Holdings.{signedSum, isHis, coversDay, partOf, partAt, heldOn}

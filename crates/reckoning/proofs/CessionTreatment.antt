@@ -7,7 +7,7 @@ use Prim.Native.Nat.{ℕ}
 use native.Mathlib.Omega.{arith}
 use Rattle.parts.specs.Registers.{State}
 use Rattle.parts.specs.Accounts.{isOnFile}
-use Rattle.conferral.specs.Spans.{annualFirst, annualLast, spanOk}
+use Rattle.spans.specs.Spans.{annualFirst, annualLast, spanOk}
 use Rattle.cessions.specs.declared.ceding.Cession.{Cession}
 use Rattle.cessions.specs.CedeCapacity.{giverOf, receiverOf, bothOnFile, isInYear, chargeOf, cessionQuestions, cessionNumber}
 use Rattle.cessions.proofs.AnswerLaws.{answered-passes, passes-answered, facts, accepted-amount, accepted-after, refused-amount, refused-after}

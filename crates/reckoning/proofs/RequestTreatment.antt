@@ -9,7 +9,7 @@ use Rattle.amounts.specs.Amounts.{spanDays, freeOn}
 use Rattle.parts.specs.Points.{isOpen}
 use Rattle.amounts.proofs.CalendarLaws.{day-in}
 use Rattle.conferral.specs.Bookings.{booked}
-use Rattle.conferral.proofs.SpanLaws.{span-facts}
+use Rattle.spans.proofs.SpanLaws.{span-facts}
 use Rattle.requests.specs.declared.products.Product.{Product}
 use Rattle.requests.specs.declared.products.Request.{Request}
 use Rattle.requests.specs.Products.{firstOf, lastOf, isOffered, isInYear, isInTime}

@@ -14,7 +14,7 @@ use Rattle.amounts.specs.Amounts.{spanDays, yearDays}
 use Rattle.parts.specs.Charges.{charge}
 use Rattle.filing.specs.OpenPoint.{openFields}
 use Rattle.filing.specs.PlaceGuarantee.{placeFields}
-use Rattle.conferral.specs.Spans.{annualFirst, annualLast, spanOk}
+use Rattle.spans.specs.Spans.{annualFirst, annualLast, spanOk}
 use Rattle.requests.specs.declared.products.Product.the-variants.{Annual}
 use Rattle.requests.specs.declared.products.Request.{Request}
 use Rattle.requests.specs.Products.{isInYear, isInTime}

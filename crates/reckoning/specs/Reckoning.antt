@@ -11,7 +11,7 @@ use Rattle.amounts.specs.Amounts.{spanDays}
 use Rattle.parts.specs.Charges.{charge}
 use Rattle.parts.specs.Answers.{leaves}
 use Rattle.register.specs.Fresh.{freshState}
-use Rattle.conferral.specs.Spans.{annualFirst, annualLast}
+use Rattle.spans.specs.Spans.{annualFirst, annualLast}
 use Rattle.requests.specs.declared.products.Request.{Request}
 use Rattle.requests.specs.Products.{firstOf, lastOf}
 use Rattle.batches.specs.Batches.{linesOf}

@@ -21,9 +21,9 @@ use Rattle.parts.specs.Accounts.{isOnFile}
 use Rattle.amounts.proofs.RangeLaws.{least-is}
 use Rattle.amounts.proofs.CalendarLaws.{day-in}
 use Rattle.register.specs.Order.{inOrder}
-use Rattle.conferral.specs.Spans.{arrives}
+use Rattle.spans.specs.Spans.{arrives}
 use Rattle.conferral.specs.Bookings.{covers, linesLeft}
-use Rattle.conferral.proofs.SpanLaws.{SpanFacts, span-facts}
+use Rattle.spans.proofs.SpanLaws.{SpanFacts, span-facts}
 use Rattle.requests.specs.declared.products.Product.{Product}
 use Rattle.requests.specs.declared.products.Product.the-variants.{Annual}
 use Rattle.requests.specs.declared.products.Request.{Request}

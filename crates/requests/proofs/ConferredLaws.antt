@@ -23,7 +23,7 @@ use Rattle.amounts.proofs.CalendarLaws.{thermal-year}
 use Rattle.register.proofs.LineLaws.{annual-last, month-last, day-last}
 use Rattle.conferral.specs.declared.bookings.Grant.{Grant}
 use Rattle.conferral.specs.Bookings.{lineOf}
-use Rattle.conferral.proofs.SpanLaws.{SpanFacts, span-facts}
+use Rattle.spans.proofs.SpanLaws.{SpanFacts, span-facts}
 use Rattle.conferral.proofs.BookedLaws.{Bookable, BookedIn, booked-in}
 use Rattle.requests.specs.declared.products.Product.{Product}
 use Rattle.requests.specs.declared.products.Product.the-variants.{Annual, Month, Day}

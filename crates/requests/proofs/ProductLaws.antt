@@ -12,8 +12,8 @@ use Rattle.calendar.specs.Answers.{monthAnswer, ownAnswer, precedingAnswer}
 use Rattle.days.proofs.Ranges.{both, month-of-test}
 use Rattle.days.proofs.DateLaws.{month-least}
 use Rattle.calendar.proofs.ThermalYearLaws.{month-days, thermal-month-from, thermal-month-to}
-use Rattle.conferral.specs.Spans.{arrives, spanFits, annualAnswer, isTimely}
-use Rattle.conferral.proofs.SpanLaws.{span-fits, arrival-year, timely-own, timely-preceding}
+use Rattle.spans.specs.Spans.{arrives, spanFits, annualAnswer, isTimely}
+use Rattle.spans.proofs.SpanLaws.{span-fits, arrival-year, timely-own, timely-preceding}
 use Rattle.requests.specs.declared.products.Product.{Product}
 use Rattle.requests.specs.declared.products.Product.the-variants.{Annual, Month, Day}
 use Rattle.requests.specs.Products.{monthOk, deadline, isInTime}

@@ -13,7 +13,7 @@ use Rattle.amounts.specs.Amounts.{entryOf, freeOn}
 use Rattle.parts.proofs.TestLaws.{fails-at}
 use Rattle.register.proofs.OrderFacts.{ordered}
 use Rattle.parts.proofs.QuestionLaws.{numberAt, lone, RefusedAt, refused-at}
-use Rattle.conferral.proofs.SpanLaws.{span-facts}
+use Rattle.spans.proofs.SpanLaws.{span-facts}
 use Rattle.requests.specs.declared.products.Request.{Request}
 use Rattle.requests.specs.RequestCapacity.{spanFirst, spanLast, daysAsked, spanPlace, accountOf, chargeAsked, isFree, requestQuestions, requestNumber}
 

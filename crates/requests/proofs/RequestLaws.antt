@@ -22,7 +22,7 @@ use Rattle.amounts.proofs.CalendarLaws.{day-in}
 use Rattle.amounts.proofs.AmountLaws.{entry-in}
 use Rattle.conferral.specs.declared.bookings.Grant.{Grant}
 use Rattle.conferral.specs.Bookings.{covers, isCovered}
-use Rattle.conferral.proofs.SpanLaws.{SpanFacts, span-facts}
+use Rattle.spans.proofs.SpanLaws.{SpanFacts, span-facts}
 use Rattle.conferral.proofs.RoomLaws.{LimitFacts, covered-is}
 use Rattle.requests.specs.declared.products.Product.{Product}
 use Rattle.requests.specs.declared.products.Product.the-variants.{Annual, Month, Day}

@@ -8,7 +8,7 @@ use Rattle.calendar.specs.ThermalYears.{thermalMonthFirst, thermalMonthLast}
 use Rattle.calendar.specs.Deadlines.{inTimeOwn, inTimePreceding}
 use Rattle.parts.specs.declared.points.Point.{Point}
 use Rattle.parts.specs.Points.{isDirect}
-use Rattle.conferral.specs.Spans.{annualFirst, annualLast, spanOk}
+use Rattle.spans.specs.Spans.{annualFirst, annualLast, spanOk}
 use Rattle.requests.specs.declared.products.Product.{Product}
 use Rattle.requests.specs.declared.products.Product.the-variants.{Annual, Month, Day}
 

@@ -8,7 +8,7 @@ use Rattle.calendar.specs.ThermalYears.{inThermalYear}
 use Rattle.calendar.specs.declared.thermal_years.Span.{Span}
 use Rattle.parts.specs.declared.registers.Register.{Register}
 use Rattle.parts.specs.Answers.{numberOfRefusal, Question, numberOf}
-use Rattle.conferral.specs.Spans.{spanWhere}
+use Rattle.spans.specs.Spans.{spanWhere}
 use Rattle.requests.specs.declared.products.Product.{Product}
 use Rattle.requests.specs.declared.products.Request.{Request}
 use Rattle.requests.specs.declared.requesting.Decision.{Decision}

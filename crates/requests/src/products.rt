@@ -1,7 +1,7 @@
 // What can be requested, and for when.
 ghost use mathlib.Core.Path.{_≡_};
 ghost use mathlib.Core.Bool.{true};
-ghost use Rattle.conferral.specs.Spans.{arrives};
+ghost use Rattle.spans.specs.Spans.{arrives};
 ghost use Rattle.requests.specs.Products.{kindOf, monthOk, isOffered, isInTime};
 ghost use Rattle.requests.specs.Steps.{daySpan, spanAnswer};
 use calendar::Span;

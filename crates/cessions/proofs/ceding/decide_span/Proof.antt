@@ -1,8 +1,8 @@
 use mathlib.Core.Path.{_≡_, refl, sym, ap, _∙_}
 use borrow.Author.Tests.{not-true, not-false}
 use Rattle.days.proofs.Ranges.{and-left}
-use Rattle.conferral.specs.Spans.{spanFits, isTimely}
-use Rattle.conferral.proofs.SpanLaws.{timely-own}
+use Rattle.spans.specs.Spans.{spanFits, isTimely}
+use Rattle.spans.proofs.SpanLaws.{timely-own}
 use Rattle.cessions.specs.CedeCapacity.{spanFirst, spanLast, deadline, isInTime, heldQuestions, spanQuestions}
 use Rattle.cessions.specs.Steps.{Spanned}
 use Rattle.cessions.proofs.CessionLaws.{spanned, no-span, decides-too}

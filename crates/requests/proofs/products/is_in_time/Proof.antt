@@ -1,5 +1,5 @@
 use mathlib.Core.Path.{ap, _∙_}
-use Rattle.conferral.specs.Spans.{isTimely}
+use Rattle.spans.specs.Spans.{isTimely}
 use Rattle.requests.proofs.ProductLaws.{annual-in-time, month-in-time}
 use borrow.Author.Needs.{needs}
 use Rattle.requests.proofs.products.is_in_time.Statement.{statement}

@@ -1,7 +1,7 @@
 use mathlib.Core.Path.{_≡_, sym, _∙_}
 use mathlib.Core.Bool.{true}
 use borrow.Author.Tests.{not-true, not-false}
-use Rattle.conferral.specs.Spans.{arrives}
+use Rattle.spans.specs.Spans.{arrives}
 use Rattle.requests.proofs.ProductLaws.{no-arrival, annual-span, month-span, day-span}
 use borrow.Author.Needs.{needs}
 use Rattle.requests.proofs.products.span_of.Statement.{statement}

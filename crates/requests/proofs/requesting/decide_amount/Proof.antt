@@ -8,7 +8,7 @@ use Rattle.amounts.specs.Ranges.{leastOf}
 use Rattle.amounts.specs.Amounts.{spanDays}
 use Rattle.conferral.specs.declared.bookings.Grant.{Grant}
 use Rattle.conferral.specs.Bookings.{covers}
-use Rattle.conferral.proofs.SpanLaws.{SpanFacts}
+use Rattle.spans.proofs.SpanLaws.{SpanFacts}
 use Rattle.requests.specs.RequestCapacity.{accountOf, chargeAsked, freeThroughout, amountGranted}
 use Rattle.requests.proofs.RequestLaws.{FieldFacts, fields, span-in, asks-cover, granted-is, granted-free, grant-is}
 use native.Mathlib.Omega.{arith}

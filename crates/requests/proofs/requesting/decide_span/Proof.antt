@@ -2,7 +2,7 @@ use mathlib.Core.Path.{_≡_, sym, _∙_}
 use mathlib.Core.Bool.{true}
 use borrow.Author.Tests.{not-true, not-false}
 use Rattle.days.proofs.Ranges.{and-left}
-use Rattle.conferral.specs.Spans.{arrives, spanFits}
+use Rattle.spans.specs.Spans.{arrives, spanFits}
 use Rattle.requests.specs.Products.{monthOk}
 use Rattle.requests.specs.RequestCapacity.{spanFirst, spanLast, amountQuestions, spanQuestions}
 use Rattle.requests.specs.Steps.{Spanned}

@@ -6,7 +6,7 @@ use Rattle.days.specs.declared.dates.GasDay.the-variants.{Day, OutsideCalendar 
 use Rattle.calendar.specs.declared.thermal_years.Span.{Span}
 use Rattle.calendar.specs.declared.thermal_years.Span.the-variants.{OutsideCalendar}
 use Rattle.days.specs.Days.{between}
-use Rattle.conferral.specs.Spans.{spanWhere}
+use Rattle.spans.specs.Spans.{spanWhere}
 
 -- from a day to the last of those from first to last, where it is one of them
 abbrev pub spanFrom : GasDay → ℕ → ℕ → Span

@@ -1,8 +1,8 @@
 use mathlib.Core.Path.{sym, _∙_}
 use Rattle.calendar.proofs.SpanLaws.{year-span, no-year}
 use borrow.Author.Needs.{needs}
-use Rattle.conferral.proofs.spans.is_span.Statement.{statement}
-use Rattle.conferral.proofs.spans.is_span.Tie as tie
+use Rattle.spans.proofs.spans.is_span.Statement.{statement}
+use Rattle.spans.proofs.spans.is_span.Tie as tie
 
 thermal-year-requires : tie.Need-thermal-year-requires
 thermal-year-requires c κs = search needs

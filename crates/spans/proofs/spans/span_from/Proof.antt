@@ -1,6 +1,6 @@
 use borrow.Author.Needs.{needs}
-use Rattle.conferral.proofs.spans.span_from.Statement.{statement}
-use Rattle.conferral.proofs.spans.span_from.Tie as tie
+use Rattle.spans.proofs.spans.span_from.Statement.{statement}
+use Rattle.spans.proofs.spans.span_from.Tie as tie
 
 enum-known-day : tie.Need-enum-known-day
 enum-known-day c = search needs

@@ -3,11 +3,11 @@ use Prim.Native.Nat.{_-_}
 use Rattle.days.specs.Days.{dayNumber}
 use Rattle.calendar.specs.ThermalYears.{YearSpan}
 use Rattle.calendar.proofs.SpanLaws.{year-span, no-year}
-use Rattle.conferral.proofs.SpanLaws.{september}
+use Rattle.spans.proofs.SpanLaws.{september}
 use native.Mathlib.Omega.{arith}
 use borrow.Author.Needs.{needs}
-use Rattle.conferral.proofs.spans.is_arrival.Statement.{statement}
-use Rattle.conferral.proofs.spans.is_arrival.Tie as tie
+use Rattle.spans.proofs.spans.is_arrival.Statement.{statement}
+use Rattle.spans.proofs.spans.is_arrival.Tie as tie
 
 -- this is the year's span
 span : (c : tie.After-known-told) → YearSpan (c .before .before .before .before .args .year) (c .before .span .given .0 .0) (c .before .span .given .0 .1 .0)

@@ -16,8 +16,8 @@ use Rattle.days.proofs.Ranges.{and-left, and-right, both, within}
 use Rattle.days.proofs.DateLaws.{month-next}
 use Rattle.calendar.proofs.DeadlineLaws.{next-of, next-beyond}
 use Rattle.amounts.proofs.CalendarLaws.{year-facts}
-use Rattle.conferral.specs.Spans.{arrives, spanFits, spanInYear, spanOk, spanWhere, annualFirst, annualLast, annualAnswer, isTimely}
-use Rattle.conferral.specs.Steps.{spanFrom}
+use Rattle.spans.specs.Spans.{arrives, spanFits, spanInYear, spanOk, spanWhere, annualFirst, annualLast, annualAnswer, isTimely}
+use Rattle.spans.specs.Steps.{spanFrom}
 
 -- 1 September lies 30 days before the year
 pub september : (y : ℕ) → thermalFirst y ≡ dayNumber y 9 1 + 30

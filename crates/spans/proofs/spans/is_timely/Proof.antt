@@ -1,6 +1,6 @@
 use borrow.Author.Needs.{needs}
-use Rattle.conferral.proofs.spans.is_timely.Statement.{statement}
-use Rattle.conferral.proofs.spans.is_timely.Tie as tie
+use Rattle.spans.proofs.spans.is_timely.Statement.{statement}
+use Rattle.spans.proofs.spans.is_timely.Tie as tie
 
 enum-told : tie.Need-enum-told
 enum-told c = search needs

@@ -1,9 +1,9 @@
 use mathlib.Core.Path.{sym, _∙_}
 use Rattle.calendar.proofs.SpanLaws.{year-span, no-year}
-use Rattle.conferral.proofs.SpanLaws.{annual-from, no-annual}
+use Rattle.spans.proofs.SpanLaws.{annual-from, no-annual}
 use borrow.Author.Needs.{needs}
-use Rattle.conferral.proofs.spans.annual_span.Statement.{statement}
-use Rattle.conferral.proofs.spans.annual_span.Tie as tie
+use Rattle.spans.proofs.spans.annual_span.Statement.{statement}
+use Rattle.spans.proofs.spans.annual_span.Tie as tie
 
 thermal-year-requires : tie.Need-thermal-year-requires
 thermal-year-requires c κs = search needs

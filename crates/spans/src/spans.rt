@@ -1,8 +1,8 @@
 // When a call may arrive, and the span to the year's end. Where there is no such span the answer is `Span::OutsideCalendar`, also
 // for days of the calendar that lie outside the year.
 ghost use mathlib.Core.Path.{_≡_};
-ghost use Rattle.conferral.specs.Spans.{arrives, spanInYear, annualAnswer, isTimely};
-ghost use Rattle.conferral.specs.Steps.{spanFrom};
+ghost use Rattle.spans.specs.Spans.{arrives, spanInYear, annualAnswer, isTimely};
+ghost use Rattle.spans.specs.Steps.{spanFrom};
 use calendar::GasDay;
 use calendar::Span;
 use calendar::Timeliness;
@@ -50,7 +50,7 @@ pub fn annual_span(year: u16, arrival: u16) -> Span
 }
 
 // Whether the days from first to last are a span of a thermal year.
-pub(crate) fn is_span(year: u16, first: u16, last: u16) -> bool
+pub fn is_span(year: u16, first: u16, last: u16) -> bool
     ensures { λ v. ⌜ v ≡ spanInYear year first last ⌝ }
 {
     let span = calendar::thermal_year(year);
