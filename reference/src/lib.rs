@@ -7,6 +7,9 @@
 pub mod batch;
 pub mod calendar;
 pub mod cession;
+mod numbers;
 pub mod register;
 pub mod request;
+pub mod runner;
 pub mod script;
+pub mod streams;

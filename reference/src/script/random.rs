@@ -14,6 +14,7 @@ mod requests;
 
 use super::{Answer, Field, Host, Step};
 use crate::calendar::thermal_year;
+use crate::numbers::Generator;
 use crate::request::Span;
 
 /// How many sequences there are without batches: enough that, with those that have
@@ -37,44 +38,13 @@ const SEED: u64 = 20_231_001;
 const MOST_AMOUNT: u64 = 9_999_999;
 
 /// The largest guarantee.
-const MOST_GUARANTEE: u64 = 1_000_000_000_000_000;
-
-/// Numbers from a seed, by the method SplitMix64.
-struct Generator(u64);
-
-impl Generator {
-    fn next(&mut self) -> u64 {
-        self.0 = self.0.wrapping_add(0x9e37_79b9_7f4a_7c15);
-        let mut z = self.0;
-        z = (z ^ (z >> 30)).wrapping_mul(0xbf58_476d_1ce4_e5b9);
-        z = (z ^ (z >> 27)).wrapping_mul(0x94d0_49bb_1331_11eb);
-        z ^ (z >> 31)
-    }
-
-    /// A number from 0 to below `end`.
-    fn below<T: TryFrom<u64>>(&mut self, end: u64) -> T {
-        T::try_from(self.next() % end).ok().expect("a small number")
-    }
-
-    /// A gas-day from `first` to `last`.
-    fn day(&mut self, first: u16, last: u16) -> u16 {
-        first + self.below::<u16>(u64::from(last - first) + 1)
-    }
-
-    fn pick<T: Copy>(&mut self, choices: &[T]) -> T {
-        choices[self.below::<usize>(choices.len() as u64)]
-    }
-
-    fn in_hundred(&mut self, chances: u64) -> bool {
-        self.next() % 100 < chances
-    }
-}
+pub(crate) const MOST_GUARANTEE: u64 = 1_000_000_000_000_000;
 
 /// The sequence that is being made, and what it has come to.
-struct Sequence {
-    numbers: Generator,
-    host: Host,
-    steps: Vec<Step>,
+pub(crate) struct Sequence {
+    pub(crate) numbers: Generator,
+    pub(crate) host: Host,
+    pub(crate) steps: Vec<Step>,
     has_batches: bool,
     /// A month of the year, 1 for October, that is asked for more than others.
     busy_month: u8,
@@ -86,15 +56,7 @@ struct Sequence {
 
 /// The sequences that follow on the steps that a host has run.
 pub fn sequences(host: Host) -> Vec<Vec<Step>> {
-    let mut sequence = Sequence {
-        numbers: Generator(SEED),
-        host: host.clone(),
-        steps: Vec::new(),
-        has_batches: false,
-        busy_month: 1,
-        granted: None,
-        repairs: Vec::new(),
-    };
+    let mut sequence = Sequence::new(Generator(SEED), host.clone());
     let made = (0..SEQUENCES + SEQUENCES_WITH_BATCHES).map(|index| {
         sequence.has_batches = index >= SEQUENCES;
         sequence.next(index % 2 == 1)
@@ -103,6 +65,19 @@ pub fn sequences(host: Host) -> Vec<Vec<Step>> {
 }
 
 impl Sequence {
+    /// One without steps, that follows on what a host has run.
+    pub(crate) fn new(numbers: Generator, host: Host) -> Sequence {
+        Sequence {
+            numbers,
+            host,
+            steps: Vec::new(),
+            has_batches: false,
+            busy_month: 1,
+            granted: None,
+            repairs: Vec::new(),
+        }
+    }
+
     /// The next sequence, of calls only or with writes. It ends with all damages
     /// repaired, so that the lists are lent whole to the one after it.
     fn next(&mut self, has_writes: bool) -> Vec<Step> {
@@ -117,7 +92,7 @@ impl Sequence {
         std::mem::take(&mut self.steps)
     }
 
-    fn add(&mut self, step: Step) {
+    pub(crate) fn add(&mut self, step: Step) {
         let answer = self.host.run(&step);
         let year = self.host.register.year;
         match (&step, answer) {
@@ -149,6 +124,11 @@ impl Sequence {
         let year = 2000 + self.numbers.below::<u16>(99);
         let year = self.numbers.pick(&[year, year, year, year, 2000, 2098]);
         self.add(Step::Fresh { year });
+        self.furnish();
+    }
+
+    /// Opens points and puts users on file.
+    pub(crate) fn furnish(&mut self) {
         self.busy_month = 1 + self.numbers.below::<u8>(12);
         self.granted = None;
         let more = if self.has_batches { 3 } else { 0 };
@@ -172,8 +152,9 @@ impl Sequence {
         }
     }
 
-    /// Puts more users on file, so that batches can have several lines.
-    fn place_more(&mut self) {
+    /// Puts more users on file, so that batches can have several lines and cessions
+    /// more receivers.
+    pub(crate) fn place_more(&mut self) {
         let first = self.numbers.pick(&[1, 21, 40, 50]);
         let end = first + self.numbers.pick(&[3, 5, 8, 11]);
         for user in first..end {
@@ -200,7 +181,7 @@ impl Sequence {
     }
 
     /// Adds a request or a cession, a cession seldom while nobody holds anything.
-    fn request_or_cession(&mut self) {
+    pub(crate) fn request_or_cession(&mut self) {
         let chances = if self.holdings().is_empty() { 7 } else { 40 };
         match self.numbers.in_hundred(chances) {
             true => self.cession(),
@@ -242,7 +223,7 @@ impl Sequence {
         (numbers.below(32), kind, total, rate)
     }
 
-    fn open(&mut self) {
+    pub(crate) fn open(&mut self) {
         let (point, kind, total, rate) = self.good_opening();
         let known = self.open_point();
         let numbers = &mut self.numbers;
@@ -274,7 +255,7 @@ impl Sequence {
         numbers.pick(&[any, any, any, any, MOST_GUARANTEE, little, tight])
     }
 
-    fn place(&mut self) {
+    pub(crate) fn place(&mut self) {
         let known = self.user_on_file();
         let user = self.numbers.pick(&[0, 5, 20, 63, known, known, known]);
         let committed = self.host.register.accounts[usize::from(user)].commitment;
@@ -364,7 +345,7 @@ impl Sequence {
         Some((point, day))
     }
 
-    fn turn(&mut self) {
+    pub(crate) fn turn(&mut self) {
         let year = self.host.register.year;
         let later = year.saturating_add(1 + self.numbers.below::<u16>(4));
         let choices = [

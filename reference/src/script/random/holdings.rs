@@ -3,9 +3,10 @@
 //! It alters nothing, so that it is put in once the sequences are made, with
 //! numbers of its own: the other steps are the same as they would be without it.
 
-use super::{Generator, Host, Step};
+use super::{Host, Step};
 use crate::calendar::thermal_year;
 use crate::cession::Holding;
+use crate::numbers::Generator;
 use crate::register::NUMBERS_IN_LINE;
 
 /// In so many of a hundred places the question is put, if there is a line.

@@ -143,7 +143,7 @@ impl Sequence {
 
     /// The days of a month up to its deadline, a working day. Month 0 is the
     /// September before the year, 1 October.
-    pub(super) fn arrivals_in(&self, month: u8, deadline: usize) -> (u16, u16) {
+    pub(crate) fn arrivals_in(&self, month: u8, deadline: usize) -> (u16, u16) {
         let first = match thermal_month(self.year(), month) {
             Some((first, _)) => Date::from_day_number(first),
             None => Date::new(self.year(), 9, 1),
