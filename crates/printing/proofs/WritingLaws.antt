@@ -1,18 +1,19 @@
--- Decimal numbers, and stores one after the other. Assumes nothing.
+-- Decimal numbers, and texts stored one after the other.
+-- Assumes nothing.
 use Prim.Native.Nat.{ℕ, zero, suc, _+_, _-_, _/_, _≤_, _<_}
-use mathlib.Core.Path.{_≡_, refl, _∙_}
-use mathlib.Core.List.{List, [], _∷_, _++_}
+use mathlib.Core.Path.{_≡_, refl, ap, _∙_}
+use mathlib.Core.List.{List, [], _∷_, _++_, append-assoc}
 use mathlib.Core.Bool.{Bool, true, false, cond}
 use native.Mathlib.Nat.{add-zero, add-suc, suc-add}
 use native.Mathlib.Numerals.{sub-one}
 use native.Mathlib.Omega.{arith}
 use lib.ListN.{length, set, length-append}
-use mathlib.Core.List.{append-assoc}
 use lib.Dec.{ltb}
 use lib.Seq.{sets}
 use borrow.Author.Tests.{lt-ltb, le-ltb}
 use Rattle.printing.specs.Lines.{lastDigit, decimalIn, endedBy, answerLine, bytesWith, placeAfter}
 
+-- the digits of a number, by whether it has one, may have one, or has more
 pub decimal-last : (k n : ℕ) → n < 10 → decimalIn k n ≡ lastDigit n ∷ []
 unfolding decimalIn
 decimal-last zero n h = refl
@@ -41,20 +42,20 @@ pub sets-append : (l : List ℕ) (i : ℕ) (s t : List ℕ) → sets l i (s ++ t
 sets-append l i [] t = rw (add-zero i)
 sets-append l i (x ∷ s) t = sets-append (set l i x) (suc i) s t ∙ rw (suc-add i (length s), add-suc i (length s))
 
--- one byte after a text
+-- a text after a text
+pub then-text : (o : List ℕ) {o' o'' : List ℕ} (at p : ℕ) {r : ℕ} (s t : List ℕ) → p ≡ at + length s → o' ≡ sets o at s → r ≡ p + length t → o'' ≡ sets o' p t
+    → (r ≡ at + length (s ++ t)) × (o'' ≡ sets o at (s ++ t))
+then-text o at p s t ep eo er es = (simp (length-append, er, ep) (omega arith), es ∙ rw (eo, ep, sets-append o at s t))
+
+-- a byte after a text
 pub then-byte : (o : List ℕ) {o' o'' : List ℕ} (at : ℕ) (p : ℕ) {r : ℕ} (s : List ℕ) (b b' : ℕ) → p ≡ at + length s → o' ≡ sets o at s → r ≡ p + 1 → o'' ≡ set o' p b' → b' ≡ b
     → (r ≡ at + length (s ++ (b ∷ []))) × (o'' ≡ sets o at (s ++ (b ∷ [])))
-then-byte o at p s b b' ep eo er es eb = (simp (length-append, er, ep) (omega arith), es ∙ rw (eb, eo, ep, sets-append o at s (b ∷ [])))
+then-byte o {o'} at p s b b' ep eo er es eb = then-text o at p s (b ∷ []) ep eo er (es ∙ ap (set o' p) eb)
 
 -- one byte alone
 pub one-byte : (o : List ℕ) {o' : List ℕ} (at : ℕ) {r : ℕ} (b b' : ℕ) {s : List ℕ} → s ≡ b ∷ [] → r ≡ at + 1 → o' ≡ set o at b' → b' ≡ b
     → (r ≡ at + length s) × (o' ≡ sets o at s)
 one-byte o at b b' es er eo eb = (rw es er, rw (es, ← eb) eo)
-
--- a text after a text
-pub then-text : (o : List ℕ) {o' o'' : List ℕ} (at p : ℕ) {r : ℕ} (s t : List ℕ) → p ≡ at + length s → o' ≡ sets o at s → r ≡ p + length t → o'' ≡ sets o' p t
-    → (r ≡ at + length (s ++ t)) × (o'' ≡ sets o at (s ++ t))
-then-text o at p s t ep eo er es = (simp (length-append, er, ep) (omega arith), es ∙ rw (eo, ep, sets-append o at s t))
 
 -- a number and the byte that ends it
 pub number-written : (o : List ℕ) {o' o'' : List ℕ} (at p : ℕ) {r : ℕ} (n end : ℕ) → p ≡ at + length (decimalIn 9 n) → o' ≡ sets o at (decimalIn 9 n) → r ≡ p + 1 → o'' ≡ set o' p end
