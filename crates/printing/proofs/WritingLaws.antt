@@ -1,32 +1,45 @@
 -- Decimal numbers, and texts stored one after the other.
 -- Assumes nothing.
 use Prim.Native.Nat.{ℕ, zero, suc, _+_, _-_, _/_, _≤_, _<_}
-use mathlib.Core.Path.{_≡_, refl, ap, _∙_}
+use mathlib.Core.Path.{_≡_, refl, ap, sym, _∙_}
 use mathlib.Core.List.{List, [], _∷_, _++_, append-assoc}
-use mathlib.Core.Bool.{Bool, true, false, cond}
+use mathlib.Core.Bool.{Bool, true, false, cond, _||_, false≢true, or-true}
 use native.Mathlib.Nat.{add-zero, add-suc, suc-add}
 use native.Mathlib.Numerals.{sub-one}
 use native.Mathlib.Omega.{arith}
 use lib.ListN.{length, set, length-append}
-use lib.Dec.{ltb}
+use lib.Dec.{eqb, ltb}
 use lib.Seq.{sets}
-use borrow.Author.Tests.{lt-ltb, le-ltb}
+use borrow.Author.Tests.{lt-ltb, le-ltb, eqb-true}
 use Rattle.printing.specs.Lines.{lastDigit, decimalIn, endedBy, answerLine, bytesWith, placeAfter}
 
--- the digits of a number, by whether it has one, may have one, or has more
-pub decimal-last : (k n : ℕ) → n < 10 → decimalIn k n ≡ lastDigit n ∷ []
+-- a number of one digit, or for which there is room for one only
+abbrev pub isLast : ℕ → ℕ → Bool
+isLast k n = ltb n 10 || eqb k 0
+
+pub decimal-last : (k n : ℕ) → isLast k n ≡ true → decimalIn k n ≡ lastDigit n ∷ []
 unfolding decimalIn
 decimal-last zero n h = refl
-decimal-last (suc k) n h = rw (lt-ltb n 10 h)
+decimal-last (suc k) n h = go (ltb n 10) h
+  where
+    go : (t : Bool) → (t || eqb (suc k) 0) ≡ true → cond t [] (decimalIn k (n / 10)) ++ (lastDigit n ∷ []) ≡ lastDigit n ∷ []
+    go true e = refl
+    go false e = absurd (omega (arith, eqb-true (suc k) 0 e))
 
-pub decimal-end : (k n : ℕ) → k ≡ 0 → decimalIn k n ≡ lastDigit n ∷ []
-unfolding decimalIn
-decimal-end k n e = rw e
+-- any other
+pub more-room : (k n : ℕ) → isLast k n ≡ false → 1 ≤ k
+more-room zero n h = absurd (false≢true (sym h ∙ or-true (ltb n 10)))
+more-room (suc k) n h = omega arith
 
-pub decimal-more : (k n : ℕ) → 10 ≤ n → (k ≡ 0 → ⊥) → decimalIn k n ≡ decimalIn (k - 1) (n / 10) ++ (lastDigit n ∷ [])
+pub decimal-more : (k n : ℕ) → isLast k n ≡ false → decimalIn k n ≡ decimalIn (k - 1) (n / 10) ++ (lastDigit n ∷ [])
 unfolding decimalIn
-decimal-more zero n h z = absurd (z refl)
-decimal-more (suc k) n h z = rw (le-ltb n 10 h, sub-one (suc k))
+decimal-more zero n h = absurd (false≢true (sym h ∙ or-true (ltb n 10)))
+decimal-more (suc k) n h = go (ltb n 10) h
+  where
+    go : (t : Bool) → (t || eqb (suc k) 0) ≡ false
+        → cond t [] (decimalIn k (n / 10)) ++ (lastDigit n ∷ []) ≡ decimalIn (suc k - 1) (n / 10) ++ (lastDigit n ∷ [])
+    go true e = absurd (false≢true (sym e))
+    go false e = rw (sub-one (suc k))
 
 pub decimal-length : (k n : ℕ) → length (decimalIn k n) ≤ k + 1
 unfolding decimalIn

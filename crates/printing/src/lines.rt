@@ -32,10 +32,7 @@ fn put_decimal(n: u32, more: usize, out: &mut [u8], at: usize) -> usize
     ensures place { λ v. ⌜ v ≡ at + length (decimalIn more n) ⌝ }
     ensures bytes { λ _. ⌜ now (out .exit) ≡ sets (now (out .entry)) at (decimalIn more n) ⌝ }
 {
-    if n < 10 {
-        return put_byte(last_digit(n), out, at);
-    }
-    if more == 0 {
+    if (n < 10) | (more == 0) {
         return put_byte(last_digit(n), out, at);
     }
     let next = put_decimal(n / 10, more - 1, out, at);

@@ -1,6 +1,6 @@
 use denote.Ref.{now}
 use Rattle.printing.specs.Lines.{lastDigit, decimalIn}
-use Rattle.printing.proofs.WritingLaws.{decimal-last, decimal-end, decimal-more, decimal-length, then-byte, one-byte}
+use Rattle.printing.proofs.WritingLaws.{decimal-last, more-room, decimal-more, decimal-length, then-byte, one-byte}
 use native.Mathlib.Omega.{arith}
 use borrow.Author.Needs.{needs}
 use Prim.Native.Nat.{ℕ, _<_, _≤_, _-_, _/_}
@@ -63,9 +63,33 @@ put-decimal-returns : (t : ℕ) → put-decimal-lts.Need-returns (
   put-decimal-below t,
   put-decimal.Post,
 ) (put-decimal-at t) put-decimal.Post
-put-decimal-returns t c = let a = c .before .before .before .before .before .before .before .args in
-    let few : a .n < 10 = omega (arith, c .before .before .before .before .before .if1 .taken) in
-    one-byte (now (a .out)) (a .at) (lastDigit (a .n)) (c .before .before .before .before .last-digit .result) (decimal-last (a .more) (a .n) few) (c .before .before .put-byte .ensures .0) (c .before .before .put-byte .ensures .1) (c .before .before .before .before .last-digit .ensures)
+put-decimal-returns t c =
+    let a = c .before .before .before .before .before .before .before .args in
+    let d = c .before .before .before .before .last-digit in
+    let p = c .before .before .put-byte .ensures in
+    one-byte (now (a .out)) (a .at) (lastDigit (a .n)) (d .result) (decimal-last (a .more) (a .n) (c .before .before .before .before .before .if1 .taken)) (p .0) (p .1) (d .ensures)
+
+put-decimal-sub-put-decimal : (t : ℕ) → put-decimal-lts.Need-sub-put-decimal (
+  last-digit-reads.Asked,
+  last-digit-reads.Learnt,
+  put-byte-reads.Asked,
+  put-byte-reads.Learnt,
+  put-decimal-below t,
+  put-decimal.Post,
+) (put-decimal-at t) put-decimal.Post
+put-decimal-sub-put-decimal t c = let a = c .before .before .args in more-room (a .more) (a .n) (c .if1 .left)
+
+put-decimal-put-decimal-requires : (t : ℕ) → put-decimal-lts.Need-put-decimal-requires (
+  last-digit-reads.Asked,
+  last-digit-reads.Learnt,
+  put-byte-reads.Asked,
+  put-byte-reads.Learnt,
+  put-decimal-below t,
+  put-decimal.Post,
+) (put-decimal-at t) put-decimal.Post
+put-decimal-put-decimal-requires t c κs =
+    let a = c .before .before .before .args in
+    let room : 1 ≤ a .more = more-room (a .more) (a .n) (c .before .if1 .left) in (omega (arith, room), omega (arith, room))
 
 put-decimal-last-digit-requires-2 : (t : ℕ) → put-decimal-lts.Need-last-digit-requires-2 (
   last-digit-reads.Asked,
@@ -85,7 +109,11 @@ put-decimal-put-byte-requires-2 : (t : ℕ) → put-decimal-lts.Need-put-byte-re
   put-decimal-below t,
   put-decimal.Post,
 ) (put-decimal-at t) put-decimal.Post
-put-decimal-put-byte-requires-2 t c κs = search needs
+put-decimal-put-byte-requires-2 t c κs =
+    let a = c .before .before .before .before .before .before .before .before .args in
+    let d = c .before .before .before .before .put-decimal in
+    let room : 1 ≤ a .more = more-room (a .more) (a .n) (c .before .before .before .before .before .before .if1 .left) in
+    omega (arith, room, decimal-length (a .more - 1) (a .n / 10), d .ensures .0, d .kept)
 
 put-decimal-same-length-2 : (t : ℕ) → put-decimal-lts.Need-same-length-2 (
   last-digit-reads.Asked,
@@ -105,71 +133,13 @@ put-decimal-returns-2 : (t : ℕ) → put-decimal-lts.Need-returns-2 (
   put-decimal-below t,
   put-decimal.Post,
 ) (put-decimal-at t) put-decimal.Post
-put-decimal-returns-2 t c = let a = c .before .before .before .before .before .before .before .before .args in
-    one-byte (now (a .out)) (a .at) (lastDigit (a .n)) (c .before .before .before .before .last-digit2 .result) (decimal-end (a .more) (a .n) (c .before .before .before .before .before .if2 .taken)) (c .before .before .put-byte2 .ensures .0) (c .before .before .put-byte2 .ensures .1) (c .before .before .before .before .last-digit2 .ensures)
-
-put-decimal-sub-put-decimal : (t : ℕ) → put-decimal-lts.Need-sub-put-decimal (
-  last-digit-reads.Asked,
-  last-digit-reads.Learnt,
-  put-byte-reads.Asked,
-  put-byte-reads.Learnt,
-  put-decimal-below t,
-  put-decimal.Post,
-) (put-decimal-at t) put-decimal.Post
-put-decimal-sub-put-decimal t c = search needs
-
-put-decimal-put-decimal-requires : (t : ℕ) → put-decimal-lts.Need-put-decimal-requires (
-  last-digit-reads.Asked,
-  last-digit-reads.Learnt,
-  put-byte-reads.Asked,
-  put-byte-reads.Learnt,
-  put-decimal-below t,
-  put-decimal.Post,
-) (put-decimal-at t) put-decimal.Post
-put-decimal-put-decimal-requires t c κs = search needs
-
-put-decimal-last-digit-requires-3 : (t : ℕ) → put-decimal-lts.Need-last-digit-requires-3 (
-  last-digit-reads.Asked,
-  last-digit-reads.Learnt,
-  put-byte-reads.Asked,
-  put-byte-reads.Learnt,
-  put-decimal-below t,
-  put-decimal.Post,
-) (put-decimal-at t) put-decimal.Post
-put-decimal-last-digit-requires-3 t c κs = search needs
-
-put-decimal-put-byte-requires-3 : (t : ℕ) → put-decimal-lts.Need-put-byte-requires-3 (
-  last-digit-reads.Asked,
-  last-digit-reads.Learnt,
-  put-byte-reads.Asked,
-  put-byte-reads.Learnt,
-  put-decimal-below t,
-  put-decimal.Post,
-) (put-decimal-at t) put-decimal.Post
-put-decimal-put-byte-requires-3 t c κs = let a = c .before .before .before .before .before .before .before .before .before .args in omega (arith, decimal-length (a .more - 1) (a .n / 10), c .before .before .before .before .put-decimal .ensures .0, c .before .before .before .before .put-decimal .kept)
-
-put-decimal-same-length-3 : (t : ℕ) → put-decimal-lts.Need-same-length-3 (
-  last-digit-reads.Asked,
-  last-digit-reads.Learnt,
-  put-byte-reads.Asked,
-  put-byte-reads.Learnt,
-  put-decimal-below t,
-  put-decimal.Post,
-) (put-decimal-at t) put-decimal.Post
-put-decimal-same-length-3 t c = search needs
-
-put-decimal-returns-3 : (t : ℕ) → put-decimal-lts.Need-returns-3 (
-  last-digit-reads.Asked,
-  last-digit-reads.Learnt,
-  put-byte-reads.Asked,
-  put-byte-reads.Learnt,
-  put-decimal-below t,
-  put-decimal.Post,
-) (put-decimal-at t) put-decimal.Post
-put-decimal-returns-3 t c = let a = c .before .before .before .before .before .before .before .before .before .before .before .before .args in let d = c .before .before .before .before .before .before .before .put-decimal in let p = c .before .before .put-byte3 in let g = c .before .before .before .before .last-digit3 in
-    let many : 10 ≤ a .n = omega (arith, c .before .before .before .before .before .before .before .before .before .before .if1 .left) in
-    rw (decimal-more (a .more) (a .n) many (c .before .before .before .before .before .before .before .before .before .if2 .left))
-    (then-byte (now (a .out)) (a .at) (d .result) (decimalIn (a .more - 1) (a .n / 10)) (lastDigit (a .n)) (g .result) (d .ensures .0) (d .ensures .1) (p .ensures .0) (p .ensures .1) (g .ensures))
+put-decimal-returns-2 t c =
+    let a = c .before .before .before .before .before .before .before .before .before .before .before .args in
+    let d = c .before .before .before .before .before .before .before .put-decimal in
+    let g = c .before .before .before .before .last-digit2 in
+    let p = c .before .before .put-byte2 .ensures in
+    rw (decimal-more (a .more) (a .n) (c .before .before .before .before .before .before .before .before .before .if1 .left))
+    (then-byte (now (a .out)) (a .at) (d .result) (decimalIn (a .more - 1) (a .n / 10)) (lastDigit (a .n)) (g .result) (d .ensures .0) (d .ensures .1) (p .0) (p .1) (g .ensures))
 
 pub +put-decimal-spec : {M : Type 1} → statement M
 +put-decimal-spec = close μ-put-decimal λ t. put-decimal-lts.spec (
@@ -186,13 +156,9 @@ pub +put-decimal-spec : {M : Type 1} → statement M
     (put-decimal-put-byte-requires t)
     (put-decimal-same-length t)
     (put-decimal-returns t)
+    (put-decimal-sub-put-decimal t)
+    (put-decimal-put-decimal-requires t)
     (put-decimal-last-digit-requires-2 t)
     (put-decimal-put-byte-requires-2 t)
     (put-decimal-same-length-2 t)
     (put-decimal-returns-2 t)
-    (put-decimal-sub-put-decimal t)
-    (put-decimal-put-decimal-requires t)
-    (put-decimal-last-digit-requires-3 t)
-    (put-decimal-put-byte-requires-3 t)
-    (put-decimal-same-length-3 t)
-    (put-decimal-returns-3 t)
