@@ -3,12 +3,13 @@
 use mathlib.Core.Path.{_≡_, sym, ap, ap₂, _∙_, subst}
 use mathlib.Core.Bool.{Bool, true, false, cond}
 use mathlib.Core.List.{List}
-use Prim.Native.Nat.{ℕ, _+_, _*_, _-_, _/_, _%_, _≤_, _<_}
+use Prim.Native.Nat.{ℕ, _+_, _*_, _-_, _/_, _%_, _≤_, _<_, min}
 use native.Mathlib.Nat.{zero-add}
 use native.Mathlib.Decide.{decLe, decLt}
 use native.Mathlib.Omega.{arith}
 use lib.Dec.{ltb}
 use lib.ListN.{getD, set, length}
+use lib.Seq.{ext-getD}
 use borrow.Author.Tests.{lt-ltb, le-ltb}
 use Rattle.calendar.specs.ThermalYears.{isThermalYear, inThermalYear}
 use Rattle.parts.specs.declared.points.Point.{Point}
@@ -50,6 +51,29 @@ capacity-le days p k = go (ltb k days)
     go : (b : Bool) → cond b (p .total) 0 ≤ p .total
     go true = omega arith
     go false = omega arith
+
+-- a row in two runs: the days of the year, and the places after its end
+pub row-of-runs : (t u f : List ℕ) (i days n : ℕ) (p : Point) → n ≡ min days rowLength → t ≡ replaced f (rowLength * i) n (λ _. p .total)
+    → u ≡ replaced t (rowLength * i + n) (rowLength - n) (λ _. 0) → u ≡ freedRow f i days p
+unfolding freedRow
+row-of-runs t u f i days n p hn ht hu =
+    hu
+    ∙ ap (λ (x : List ℕ). replaced x (rowLength * i + n) (rowLength - n) (λ _. 0)) (ht ∙ replaced-same f (rowLength * i) n (λ _. p .total) G year)
+    ∙ replaced-same (replaced f (rowLength * i) n G) (rowLength * i + n) (rowLength - n) (λ _. 0) (λ k. G (n + k)) rest
+    ∙ replaced-join f (rowLength * i) n (rowLength - n) G
+    ∙ ap (λ (j : ℕ). replaced f (rowLength * i) j G) sum
+  where
+    G : ℕ → ℕ
+    G = capacity days p
+
+    year : (k : ℕ) → k < n → p .total ≡ G k
+    year k b = sym (capacity-in days p k (omega (arith, hn, b)))
+
+    rest : (k : ℕ) → k < rowLength - n → 0 ≡ G (n + k)
+    rest k b = sym (capacity-out days p (n + k) (omega (arith, hn, b)))
+
+    sum : n + (rowLength - n) ≡ rowLength
+    sum = omega (arith, hn)
 
 -- one row after another
 pub table-step : (t f : List ℕ) (days i : ℕ) (ps : List Point) (p : Point) → t ≡ replaced f 0 (rowLength * i) (capacityAt days ps) → p ≡ pointAt ps i
@@ -116,6 +140,42 @@ taken-le f at n amount j size = go (decLe at j) (decLt j (at + n))
         each-place (λ (i : ℕ). getD (taken f at n amount) i 0 ≤ getD f i 0) at n (λ k h. omega (arith, taken-in f at n amount k h (omega arith))) j a b
     go (yes a) (no b) = omega (arith, taken-out f at n amount j (λ lo hi. b hi))
     go (no a) b = omega (arith, taken-out f at n amount j (λ lo hi. a lo))
+
+-- nothing taken, and one amount taken after another
+pub taken-none : (f : List ℕ) (at n : ℕ) → taken f at n 0 ≡ f
+taken-none f at n = ext-getD 0 (taken f at n 0) f (taken-length f at n 0) (λ j b. go j (omega (arith, b, taken-length f at n 0)) (decLe at j) (decLt j (at + n)))
+  where
+    go : (j : ℕ) → j < length f → Dec (at ≤ j) → Dec (j < at + n) → getD (taken f at n 0) j 0 ≡ getD f j 0
+    go j l (yes a) (yes b) =
+        let e : at + (j - at) ≡ j = omega arith in
+        subst (λ (i : ℕ). getD (taken f at n 0) i 0 ≡ getD f i 0) e (omega (arith, taken-in f at n 0 (j - at) (omega arith) (omega arith)))
+    go j l (yes a) (no b) = taken-out f at n 0 j (λ lo hi. b hi)
+    go j l (no a) b = taken-out f at n 0 j (λ lo hi. a lo)
+
+module _ (f : List ℕ) (at n x y : ℕ) where
+  abbrev once : List ℕ
+  once = taken f at n x
+
+  abbrev again : List ℕ
+  again = taken once at n y
+
+  again-length : length again ≡ length f
+  again-length = taken-length once at n y ∙ taken-length f at n x
+
+  again-at : (j : ℕ) → j < length f → Dec (at ≤ j) → Dec (j < at + n) → getD again j 0 ≡ getD (taken f at n (x + y)) j 0
+  again-at j l (yes a) (yes b) =
+      let e : at + (j - at) ≡ j = omega arith in
+      subst (λ (i : ℕ). getD again i 0 ≡ getD (taken f at n (x + y)) i 0) e
+      (omega (arith, taken-in once at n y (j - at) (omega arith) (omega (arith, taken-length f at n x)), taken-in f at n x (j - at) (omega arith) (omega arith), taken-in f at n (x + y) (j - at) (omega arith) (omega arith)))
+  again-at j l (yes a) (no b) =
+      taken-out once at n y j (λ lo hi. b hi) ∙ taken-out f at n x j (λ lo hi. b hi) ∙ sym (taken-out f at n (x + y) j (λ lo hi. b hi))
+  again-at j l (no a) b =
+      taken-out once at n y j (λ lo hi. a lo) ∙ taken-out f at n x j (λ lo hi. a lo) ∙ sym (taken-out f at n (x + y) j (λ lo hi. a lo))
+
+  pub taken-twice : again ≡ taken f at n (x + y)
+  taken-twice =
+      ext-getD 0 again (taken f at n (x + y)) (again-length ∙ sym (taken-length f at n (x + y)))
+      (λ j b. again-at j (omega (arith, b, again-length)) (decLe at j) (decLt j (at + n)))
 
 -- ---- rows and tables
 -- what a freed row has: its point's capacity in its own places, and what was there in the others

@@ -2,7 +2,7 @@
 ghost use mathlib.Core.Path.{_≡_};
 ghost use Prim.Native.Nat.{_-_, min};
 ghost use lib.ListN.{length, replicate};
-ghost use Rattle.amounts.specs.Ranges.{leastOf};
+ghost use Rattle.amounts.specs.Ranges.{replaced, leastOf};
 ghost use Rattle.amounts.specs.Amounts.{daysOfYear, entryAt, entryIn, capacity, taken, freedRow, freedTable};
 use calendar::Span;
 use parts::POINTS;
@@ -128,17 +128,27 @@ pub fn clear(list: &mut [u32])
     }
 }
 
-// Every gas-day of a year with so many days is free to the total of point i.
+// Each of the n numbers from place `at` on becomes v.
+fn fill(list: &mut [u32], at: usize, n: usize, v: u32)
+    ensures { λ _. ⌜ now (list .exit) ≡ replaced (now (list .entry)) at n (λ _. v) ⌝ }
+{
+    let within = places_within(list.len(), at, n);
+    let mut k: usize = 0;
+    while k < within {
+        list[at + k] = v;
+        k += 1;
+    }
+}
+
+// Every gas-day of a year with so many days is free to the total of point i. The places after the year's end are filled apart, so
+// that no place asks which it is.
 pub fn free_row(free: &mut [u32], i: u8, days: usize, p: Point)
     ensures { λ _. ⌜ now (free .exit) ≡ freedRow (now (free .entry)) i days p ⌝ }
 {
     let at = ROW * (i as usize);
-    let n = places_within(free.len(), at, ROW);
-    let mut k: usize = 0;
-    while k < n {
-        free[at + k] = capacity_on(days, p, k);
-        k += 1;
-    }
+    let n = places_within(ROW, 0, days);
+    fill(free, at, n, p.total);
+    fill(free, at + n, ROW - n, 0);
 }
 
 // The same of all points.

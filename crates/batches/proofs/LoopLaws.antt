@@ -1,44 +1,79 @@
 -- What the code's loops and steps rest on.
 -- Assumes nothing.
 use mathlib.Core.Path.{_≡_, refl, sym, ap, ap₂, _∙_}
-use mathlib.Core.Bool.{Bool, true, false, cond, _&&_, true≢false}
+use mathlib.Core.Bool.{Bool, true, false, cond, _&&_, _||_, true≢false, or-true, or-false}
 use mathlib.Core.List.{List}
-use Prim.Native.Nat.{ℕ, _+_, _≤_, _<_}
+use Prim.Native.Nat.{ℕ, zero, suc, _+_, _*_, _%_, _≤_, _<_}
 use native.Mathlib.Numerals.{add-one}
+use native.Mathlib.Decide.{ℕ-discrete}
 use native.Mathlib.Omega.{arith}
 use lib.Dec.{ltb, eqb}
-use lib.ListN.{getD, length}
+use lib.ListN.{getD, set, length, replicate, getD-replicate}
+use lib.Seq.{getD-set-same, getD-set-other}
 use borrow.Author.Tests.{ltb-true, lt-leb, le-leb, eqb-true, eq-eqb, ne-eqb}
 use Rattle.days.specs.Days.{between}
-use Rattle.calendar.specs.ThermalYears.{isThermalYear}
-use Rattle.days.proofs.Ranges.{and-left, and-right, Within, within}
+use Rattle.calendar.specs.ThermalYears.{isThermalYear, thermalFirst, thermalLast}
+use Rattle.days.proofs.Ranges.{and-left, and-right, both, Within, within}
+use Rattle.parts.specs.declared.points.Point.{Point}
+use Rattle.parts.specs.declared.accounts.Account.{Account}
 use Rattle.parts.specs.declared.registers.Register.{Register}
-use Rattle.parts.specs.Limits.{pointCount, userCount, lineCount, mostAmount}
+use Rattle.parts.specs.Limits.{pointCount, userCount, lineCount, rowLength, mostAmount}
 use Rattle.amounts.specs.Ranges.{replaced, sumBelow}
-use Rattle.amounts.specs.Amounts.{yearDays, entryAt}
+use Rattle.amounts.specs.Amounts.{yearDays, daysOfYear, entryAt, entryOf, taken}
 use Rattle.parts.specs.Tests.{someBelow}
-use Rattle.parts.specs.Registers.{State, pointAt}
+use Rattle.parts.specs.Registers.{State, state, pointAt, accountAt, withAccount, withLines}
+use Rattle.parts.specs.Charges.{charge}
 use Rattle.parts.specs.Accounts.{isOnFile}
 use Rattle.parts.specs.Points.{isOpen}
 use Rattle.parts.specs.Answers.{leaves}
 use Rattle.parts.proofs.AnswerLaws.{leaves-new}
 use Rattle.amounts.proofs.RangeLaws.{replaced-length, replaced-out, replaced-same, sum-same}
-use Rattle.parts.proofs.TestLaws.{some-more}
+use Rattle.amounts.proofs.AmountLaws.{days-of, taken-none, taken-twice}
+use Rattle.amounts.proofs.CalendarLaws.{year-facts}
+use Rattle.parts.proofs.TestLaws.{some-none, some-more}
 use Rattle.register.specs.Order.{inOrder}
 use Rattle.conferral.specs.declared.bookings.Grant.{Grant}
-use Rattle.conferral.specs.Bookings.{covers, isCovered, bookAfter}
-use Rattle.conferral.proofs.RoomLaws.{covered-is}
-use Rattle.batches.specs.Batches.{Batch, linesOf, userOf, askedOf, grantFor, grantOf, lineFields, namedBefore, accountOf, chargeAsked, lineNumber}
+use Rattle.conferral.specs.Bookings.{covers, daysOf, bookAfter}
+use Rattle.conferral.specs.Postings.{roomFor, Posting, posting, postAfter}
+use Rattle.conferral.proofs.PostingLaws.{own-user, room-facts, posted-booked, after-year, after-points}
+use Rattle.spans.specs.Spans.{spanFits, spanInYear}
+use Rattle.spans.proofs.SpanLaws.{span-fits}
+use Rattle.batches.specs.Batches.{Batch, linesOf, userOf, askedOf, grantFor, lineFields, namedBefore, lineNumber}
 use Rattle.batches.specs.Shares.{smallest, freeOfYear, counted, countedAt, sumAsked, proQuota, shareIf, numberIf, shareOf, numberOfLine, listOf}
 use Rattle.batches.specs.ConferBatch.{batchFields, batchNumber, batchAfter, bookedLines, sharesOf, numbersOf}
-use Rattle.batches.specs.Steps.{Passing, countedIn, shareIn, numberIn, bookSome}
+use Rattle.batches.specs.Steps.{grantTo, numberFor, Marked, Passing, countedIn, shareIn, numberIn, bookSome}
 use Rattle.batches.proofs.AnswerLaws.{BatchFacts, facts, accepted-after}
 use Rattle.batches.proofs.ShareLaws.{line-facts, list-length, list-at, list-is}
-use Rattle.batches.proofs.BookedLaws.{year-limits, booked-some}
+use Rattle.batches.proofs.BookedLaws.{booked-some}
 
--- ---- question 14: one more line that does not name the user
-pub some-not : (t : ℕ → Bool) (n : ℕ) → someBelow n t ≡ false → t n ≡ false → someBelow (n + 1) t ≡ false
-some-not t n p q = rw (some-more t n, p, q)
+-- ---- question 14: the marks of the users that lines have named
+pub marked-none : (us : List ℕ) → Marked us 0 (replicate 256 false)
+marked-none us u b = getD-replicate 256 u false false b ∙ sym (some-none (λ j. eqb (getD us j 0) u))
+
+-- one more: line i's user stands at place k
+module _ (us : List ℕ) (i k : ℕ) (marks : List Bool) (h : k ≡ getD us i 0) (l : k < 256) (old : Marked us i marks) where
+  abbrev names : ℕ → ℕ → Bool
+  names u j = eqb (getD us j 0) u
+
+  more : (u : ℕ) (t : Bool) → names u i ≡ t → someBelow (i + 1) (names u) ≡ (someBelow i (names u) || t)
+  more u t e = some-more (names u) i ∙ ap (λ (x : Bool). someBelow i (names u) || x) e
+
+  pub marked-more : length marks ≡ 256 → Marked us (i + 1) (set marks k true)
+  marked-more long u b = go (ℕ-discrete u k)
+    where
+      go : Dec (u ≡ k) → getD (set marks k true) u false ≡ someBelow (i + 1) (names u)
+      go (yes e) =
+          ap (λ (j : ℕ). getD (set marks k true) j false) e
+          ∙ (getD-set-same marks k true false (omega (arith, long, l))
+          ∙ sym (more u true (eq-eqb (getD us i 0) u (sym h ∙ sym e)) ∙ or-true (someBelow i (names u))))
+      go (no ne) =
+          getD-set-other marks k u true false ne
+          ∙ (old u b ∙ sym (more u false (ne-eqb (getD us i 0) u (λ e. ne (sym e ∙ sym h))) ∙ or-false (someBelow i (names u))))
+
+  -- the mark says whether an earlier line names him
+  pub marked-named : getD marks k false ≡ namedBefore us i
+  unfolding namedBefore
+  marked-named = old k l ∙ ap (λ (u : ℕ). someBelow i (names u)) h
 
 -- ---- question 2 of a line
 pub line-user : (u a : ℕ) → lineFields u a ≡ true → u < userCount
@@ -47,38 +82,45 @@ line-user u a h = ltb-true u userCount (and-left (ltb u userCount) (between 1 mo
 pub line-amount : (u a : ℕ) → lineFields u a ≡ true → Within 1 mostAmount a
 line-amount u a h = within 1 mostAmount a (and-right (ltb u userCount) (between 1 mostAmount a) h)
 
--- ---- question 11: the grant of an amount within limits is within limits, so that the code's test is the question
-pub asks-cover : (r : Register) (b : Batch) (i : ℕ) (g : Grant) → isThermalYear (r .year) ≡ true → b .point < pointCount
-    → lineFields (userOf b i) (askedOf b i) ≡ true
-    → g ≡ grantOf r b i (askedOf b i)
-    → isCovered r g ≡ covers (accountOf r b i) (chargeAsked r b i)
-asks-cover r b i g hy hp h e =
-    ap (isCovered r) e
-    ∙ covered-is r (grantOf r b i (askedOf b i)) (year-limits (r .year) (userOf b i) (b .point) (askedOf b i) hy hp (line-user (userOf b i) (askedOf b i) h) (line-amount (userOf b i) (askedOf b i) h))
-
 -- ---- the number of a line, at each exit
-module _ (r : Register) (b : Batch) (i : ℕ) where
-  pub line-two : lineFields (userOf b i) (askedOf b i) ≡ false → 2 ≡ lineNumber r b i
-  unfolding lineNumber
-  line-two h = rw h
+module _ (days : ℕ) (x : Account) (p : Point) (u amount : ℕ) where
+  pub line-two : (named : Bool) → lineFields u amount ≡ false → 2 ≡ numberFor days x p u amount named
+  unfolding numberFor
+  line-two named h = rw h
 
-  module _ (h : lineFields (userOf b i) (askedOf b i) ≡ true) where
-    pub line-fourteen : namedBefore (b .users) i ≡ true → 14 ≡ lineNumber r b i
-    unfolding lineNumber
-    line-fourteen n = rw (h, n)
+  module _ (h : lineFields u amount ≡ true) where
+    pub line-fourteen : (named : Bool) → named ≡ true → 14 ≡ numberFor days x p u amount named
+    unfolding numberFor
+    line-fourteen named n = rw (h, n)
 
-    module _ (n : namedBefore (b .users) i ≡ false) where
-      pub line-five : isOnFile (accountOf r b i) ≡ false → 5 ≡ lineNumber r b i
-      unfolding lineNumber
+    module _ (named : Bool) (n : named ≡ false) where
+      pub line-five : isOnFile x ≡ false → 5 ≡ numberFor days x p u amount named
+      unfolding numberFor
       line-five f = rw (h, n, f)
 
-      pub line-eleven : isOnFile (accountOf r b i) ≡ true → covers (accountOf r b i) (chargeAsked r b i) ≡ false → 11 ≡ lineNumber r b i
-      unfolding lineNumber
+      pub line-eleven : isOnFile x ≡ true → covers x (charge amount days (p .rate)) ≡ false → 11 ≡ numberFor days x p u amount named
+      unfolding numberFor
       line-eleven f c = rw (h, n, f, c)
 
-      pub line-zero : isOnFile (accountOf r b i) ≡ true → covers (accountOf r b i) (chargeAsked r b i) ≡ true → 0 ≡ lineNumber r b i
-      unfolding lineNumber
+      pub line-zero : isOnFile x ≡ true → covers x (charge amount days (p .rate)) ≡ true → 0 ≡ numberFor days x p u amount named
+      unfolding numberFor
       line-zero f c = rw (h, n, f, c)
+
+-- it is the line's number where the account is the one that the line names; a user out of limits has 2 with any
+pub number-for : (r : Register) (b : Batch) (i days : ℕ) (named : Bool) → isThermalYear (r .year) ≡ true
+    → days ≡ daysOfYear (r .year)
+    → named ≡ namedBefore (b .users) i
+    → numberFor days (accountAt (r .accounts) (userOf b i % 64)) (pointAt (r .points) (b .point)) (userOf b i) (askedOf b i) named ≡ lineNumber r b i
+unfolding numberFor lineNumber
+number-for r b i days named hy long marked = go (lineFields (userOf b i) (askedOf b i)) refl
+  where
+    go : (t : Bool) → lineFields (userOf b i) (askedOf b i) ≡ t
+        → numberFor days (accountAt (r .accounts) (userOf b i % 64)) (pointAt (r .points) (b .point)) (userOf b i) (askedOf b i) named ≡ lineNumber r b i
+    go true e =
+        let own : userOf b i % 64 ≡ userOf b i = omega (arith, line-user (userOf b i) (askedOf b i) e) in
+        let year : days ≡ yearDays (r .year) = long ∙ days-of (r .year) hy in
+        rw (own, year, marked)
+    go false e = rw e
 
 -- ---- the number of a batch, at each exit
 module _ (s : State) (b : Batch) (m n : ℕ) where
@@ -144,11 +186,7 @@ pub not-reached : (t l : List ℕ) (i : ℕ) (g : ℕ → ℕ) → t ≡ replace
 not-reached t l i g e =
     ap (λ (k : List ℕ). getD k i 0) e ∙ replaced-out l 0 i g 0 i (λ lo hi. omega arith)
 
--- ---- the bookings: none yet, and one more
-pub book-none : (s : State) (y p : ℕ) (us shares : List ℕ) → s ≡ bookSome s y p us shares 0
-unfolding bookSome
-book-none s y p us shares = refl
-
+-- ---- the bookings: one more
 pub book-more : (s t v : State) (y p : ℕ) (us shares : List ℕ) (i : ℕ) (g : Grant) → t ≡ bookSome s y p us shares i
     → g ≡ grantFor y (getD us i 0) p (getD shares i 0)
     → v ≡ bookAfter t g
@@ -159,6 +197,82 @@ book-more s t v y p us shares i g before grant after =
     ∙ ap (bookAfter t) grant
     ∙ ap (λ (x : State). bookAfter x (grantFor y (getD us i 0) p (getD shares i 0))) before
     ∙ sym (ap (bookSome s y p us shares) (add-one i))
+
+-- they keep the year and the points
+pub some-year : (s : State) (y p : ℕ) (us shares : List ℕ) (n : ℕ) → bookSome s y p us shares n .register .year ≡ s .register .year
+unfolding bookSome
+some-year s y p us shares zero = refl
+some-year s y p us shares (suc n) =
+    after-year (bookSome s y p us shares n) (grantFor y (getD us n 0) p (getD shares n 0)) ∙ some-year s y p us shares n
+
+pub some-points : (s : State) (y p : ℕ) (us shares : List ℕ) (n : ℕ) → bookSome s y p us shares n .register .points ≡ s .register .points
+unfolding bookSome
+some-points s y p us shares zero = refl
+some-points s y p us shares (suc n) =
+    after-points (bookSome s y p us shares n) (grantFor y (getD us n 0) p (getD shares n 0)) ∙ some-points s y p us shares n
+
+-- the whole year is a span in it
+whole-span : (y : ℕ) → isThermalYear y ≡ true → spanInYear y (thermalFirst y) (thermalLast y) ≡ true
+whole-span y h =
+    let w = year-facts y h in
+    both (isThermalYear y) (spanFits y (thermalFirst y) (thermalLast y)) h
+    (span-fits y (thermalFirst y) (thermalLast y) (record { begins = omega arith; ordered = omega (arith, w .ordered); ends = omega arith }))
+
+-- one more, by parts: the account and the lines that `post` left, put in their places, and the amount joined to those that are to be taken
+-- from the days of the year
+pub post-more : (r s : Register) (f₀ l₀ l : List ℕ) (p : ℕ) (us shares : List ℕ) (i sum : ℕ) (g : Grant) (x : Account) (n amount : ℕ) (l′ : List ℕ) → isThermalYear (r .year) ≡ true → p < pointCount
+    → state s (taken f₀ (entryAt p 0) (yearDays (r .year)) sum) l ≡ bookSome (state r f₀ l₀) (r .year) p us shares i
+    → g ≡ grantFor (r .year) (getD us i 0) p (getD shares i 0)
+    → posting x n amount l′ ≡ postAfter (s .lines) (accountAt (s .accounts) (g .user % 64)) (pointAt (r .points) p) g l
+    → state (withLines (withAccount s (g .user % 64) x) n) (taken f₀ (entryAt p 0) (yearDays (r .year)) (sum + amount)) l′ ≡ bookSome (state r f₀ l₀) (r .year) p us shares (i + 1)
+post-more r s f₀ l₀ l p us shares i sum g x n amount l′ hy hp before grant e =
+    let start = state r f₀ l₀ in
+    let f = taken f₀ (entryAt p 0) (yearDays (r .year)) sum in
+    let year : s .year ≡ r .year = ap (λ (t : State). t .register .year) before ∙ some-year start (r .year) p us shares i in
+    let points : s .points ≡ r .points = ap (λ (t : State). t .register .points) before ∙ some-points start (r .year) p us shares i in
+    let placed : g .point ≡ p = ap (λ (z : Grant). z .point) grant in
+    let begins : g .first ≡ thermalFirst (r .year) = ap (λ (z : Grant). z .first) grant in
+    let ends : g .last ≡ thermalLast (r .year) = ap (λ (z : Grant). z .last) grant in
+    let span : spanInYear (s .year) (g .first) (g .last) ≡ true = rw (year, begins, ends) (whole-span (r .year) hy) in
+    let place : entryOf (s .year) (g .point) (g .first) ≡ entryAt p 0 = rw (year, begins, placed) (omega arith) in
+    let days : daysOf g ≡ yearDays (r .year) = rw (begins, ends) in
+    let parts = posted-booked s g span (g .user % 64) (pointAt (r .points) p) (own-user g) (λ h. rw (points, placed)) f l (posting x n amount l′) e in
+    let joined : state (withLines (withAccount s (g .user % 64) x) n) (taken f₀ (entryAt p 0) (yearDays (r .year)) (sum + amount)) l′
+    ≡ state (withLines (withAccount s (g .user % 64) x) n) (taken f (entryOf (s .year) (g .point) (g .first)) (daysOf g) amount) l′ =
+    rw (place, days, taken-twice f₀ (entryAt p 0) (yearDays (r .year)) sum amount) in
+    book-more start (state s f l) (state (withLines (withAccount s (g .user % 64) x) n) (taken f₀ (entryAt p 0) (yearDays (r .year)) (sum + amount)) l′) (r .year) p us shares i g before grant
+    (joined ∙ parts)
+
+-- none yet
+pub none-booked : (r : Register) (f l : List ℕ) (p : ℕ) (us shares : List ℕ) → state r (taken f (entryAt p 0) (yearDays (r .year)) 0) l ≡ bookSome (state r f l) (r .year) p us shares 0
+unfolding bookSome
+none-booked r f l p us shares = ap (λ (g : List ℕ). state r g l) (taken-none f (entryAt p 0) (yearDays (r .year)))
+
+-- all: the sum is taken
+pub sum-booked : (r s : Register) (f l f′ l′ : List ℕ) (p : ℕ) (us shares : List ℕ) (n days sum : ℕ) → isThermalYear (r .year) ≡ true → days ≡ daysOfYear (r .year)
+    → f′ ≡ taken f (rowLength * p) days sum
+    → state s (taken f (entryAt p 0) (yearDays (r .year)) sum) l′ ≡ bookSome (state r f l) (r .year) p us shares n
+    → state s f′ l′ ≡ bookSome (state r f l) (r .year) p us shares n
+sum-booked r s f l f′ l′ p us shares n days sum hy long so booked =
+    let at : rowLength * p ≡ entryAt p 0 = omega arith in
+    rw (so, at, long, days-of (r .year) hy) booked
+
+-- the grant of a share
+pub grant-to : (y p u a : ℕ) (whole g : Grant) → whole ≡ grantFor y 0 p 0 → g ≡ grantTo whole u a → g ≡ grantFor y u p a
+grant-to y p u a whole g w e = e ∙ ap (λ (x : Grant). grantTo x u a) w
+
+-- what is booked is at most the limit
+pub post-most : (n : ℕ) (x y : Account) (p : Point) (g : Grant) (l l′ : List ℕ) (m amount : ℕ) → posting y m amount l′ ≡ postAfter n x p g l → amount ≤ mostAmount
+unfolding postAfter
+post-most n x y p g l l′ m amount e = go (roomFor n x p g) refl
+  where
+    go : (t : Bool) → roomFor n x p g ≡ t → amount ≤ mostAmount
+    go true h =
+        let a : amount ≡ g .amount = ap (λ (z : Posting). z .amount) e ∙ rw h in
+        omega (arith, a, room-facts n x p g h .amount)
+    go false h =
+        let a : amount ≡ 0 = ap (λ (z : Posting). z .amount) e ∙ rw h in
+        omega (arith, a)
 
 -- ---- an accepted batch: `told` has the numbers that the questions gave, written over a list of n places
 module _ (s : State) (b : Batch) (m n : ℕ) (h : batchNumber s b m n ≡ 0) (list told : List ℕ) (long : length list ≡ n) (e : told ≡ replaced list 0 (linesOf b) (lineNumber (s .register) b)) where

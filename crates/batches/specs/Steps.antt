@@ -2,13 +2,42 @@
 -- Assumes nothing.
 use Prim.Native.Nat.{ℕ, zero, suc, _≤_, _<_}
 use mathlib.Core.Path.{_≡_}
-use mathlib.Core.List.{List}
+use mathlib.Core.Bool.{Bool, false, not}
+use mathlib.Core.List.{List, [], _∷_}
+use lib.Dec.{eqb}
 use lib.ListN.{getD, length}
+use Rattle.parts.specs.declared.points.Point.{Point}
+use Rattle.parts.specs.declared.accounts.Account.{Account}
 use Rattle.parts.specs.Limits.{mostAmount}
+use Rattle.parts.specs.Tests.{someBelow}
 use Rattle.parts.specs.Registers.{State}
-use Rattle.conferral.specs.Bookings.{bookAfter}
-use Rattle.batches.specs.Batches.{grantFor}
+use Rattle.parts.specs.Charges.{charge}
+use Rattle.parts.specs.Accounts.{isOnFile}
+use Rattle.parts.specs.Answers.{_asks_, numberOf}
+use Rattle.conferral.specs.declared.bookings.Grant.{Grant}
+use Rattle.conferral.specs.Bookings.{covers, bookAfter}
+use Rattle.batches.specs.Batches.{grantFor, lineFields}
 use Rattle.batches.specs.Shares.{counted, shareIf, numberIf}
+
+-- a grant of another amount to another user
+abbrev pub grantTo : Grant → ℕ → ℕ → Grant
+grantTo g u amount =
+    record { user = u; point = g .point; kind = g .kind; first = g .first; last = g .last; amount = amount }
+
+-- the number of a line by its own questions, in a year of so many days: it names account x, at the point p, and `named` says whether an
+-- earlier line names its user
+unfoldable pub numberFor : ℕ → Account → Point → ℕ → ℕ → Bool → ℕ
+numberFor days x p u amount named =
+    numberOf
+    (2 asks lineFields u amount
+    ∷ 14 asks not named
+    ∷ 5 asks isOnFile x
+    ∷ 11 asks covers x (charge amount days (p .rate))
+    ∷ [])
+
+-- the users that the first n lines name are marked
+abbrev pub Marked : List ℕ → ℕ → List Bool → Type 0
+Marked us n marks = (u : ℕ) → u < 256 → getD marks u false ≡ someBelow n (λ j. eqb (getD us j 0) u)
 
 -- a line that passed the questions asked for no more than the limit
 abbrev pub Passing : List ℕ → List ℕ → Type 0

@@ -1,6 +1,6 @@
 // The questions put to a batch as a whole, and the call.
 ghost use mathlib.Core.Path.{_≡_};
-ghost use Prim.Native.Nat.{_<_};
+ghost use Prim.Native.Nat.{_<_, _≤_};
 ghost use lib.ListN.{length};
 ghost use mathlib.Core.Bool.{true};
 ghost use Rattle.calendar.specs.ThermalYears.{isThermalYear};
@@ -10,9 +10,11 @@ ghost use Rattle.amounts.specs.Amounts.{yearDays, entryAt};
 ghost use Rattle.parts.specs.Answers.{numberOfVerdict};
 ghost use Rattle.batches.specs.Batches.{batch};
 ghost use Rattle.batches.specs.Shares.{smallest};
-ghost use Rattle.batches.specs.ConferBatch.{lengthsFit, batchNumber, bookedLines, sharesOf, numbersOf, batchAfter, sharesAfter, numbersAfter};
+ghost use Rattle.batches.specs.ConferBatch.{mostLines, lengthsFit, batchNumber, bookedLines, sharesOf, numbersOf, batchAfter, sharesAfter, numbersAfter};
 ghost use Rattle.batches.specs.Steps.{bookSome};
+use crate::lines::USERS;
 use crate::lines::ask_lines;
+use crate::lines::grant_to;
 use crate::lines::year_grant;
 use crate::sharing::share_out;
 use crate::sharing::sum_asked;
@@ -71,7 +73,8 @@ fn free_of_year(year: u16, free: &[u32], point: u8) -> u32
     register::least_free(free, at, register::days_of_year(year), free[at])
 }
 
-// Books each share above 0, in the order of the lines. A share of 0 has no room in any register and is left out.
+// Books each share above 0, in the order of the lines, and takes their sum from each day of the year. A share of 0 has no room in any
+// register and is left out. The register is altered in its place: one that went through a call for each share would be copied as often.
 fn book_shares(
     r: Register,
     free: &mut [u32],
@@ -80,21 +83,27 @@ fn book_shares(
     users: &[u8],
     shares: &[u32],
 ) -> Register
-    requires { ⌜ (isThermalYear (r .year) ≡ true) × (length (now shares) ≡ length (now users)) ⌝ }
+    requires { ⌜ (isThermalYear (r .year) ≡ true) × ((point < pointCount) × ((length (now shares) ≡ length (now users)) × (length (now users) ≤ mostLines))) ⌝ }
     ensures { λ v. ⌜ state v (now (free .exit)) (now (ledger .exit)) ≡ bookSome (state r (now (free .entry)) (now (ledger .entry))) (r .year) point (now (users .entry)) (now (shares .entry)) (length (now (users .entry))) ⌝ }
 {
-    let year = r.year;
+    let p = r.points[point as usize];
+    let whole = year_grant(r.year, 0, point, 0);
+    let days = register::days_of_year(r.year);
     let mut s = r;
+    let mut sum: u32 = 0;
     let mut i: usize = 0;
     while i < users.len() {
-        s = conferral::book(
-            s,
-            free,
-            ledger,
-            year_grant(year, users[i], point, shares[i]),
-        );
+        let g = grant_to(whole, users[i], shares[i]);
+        let user = (g.user % USERS) as usize;
+        let a = s.accounts[user];
+        let posted = conferral::post(s.lines, a, p, ledger, g);
+        let b = posted.account;
+        s.accounts[user] = b;
+        s.lines = posted.lines;
+        sum += posted.amount;
         i += 1;
     }
+    register::take_free(free, register::ROW * (point as usize), days, sum);
     s
 }
 

@@ -1,18 +1,38 @@
 // The lines of a batch: the questions put to each, and the grant of its share.
 ghost use mathlib.Core.Path.{_≡_};
 ghost use mathlib.Core.Bool.{true};
-ghost use Prim.Native.Nat.{_<_};
+ghost use Prim.Native.Nat.{_<_, _≤_};
 ghost use lib.ListN.{length};
 ghost use Rattle.calendar.specs.ThermalYears.{isThermalYear};
-ghost use Rattle.parts.specs.Limits.{pointCount};
+ghost use Rattle.parts.specs.Limits.{pointCount, rowLength};
 ghost use Rattle.amounts.specs.Ranges.{replaced};
 ghost use Rattle.parts.specs.Answers.{numberOfVerdict};
-ghost use Rattle.batches.specs.Batches.{batch, grantFor, lineFields, namedBefore, lineNumber};
+ghost use Rattle.batches.specs.Batches.{batch, grantFor, lineFields, lineNumber};
+ghost use Rattle.batches.specs.Steps.{grantTo, numberFor};
 use calendar::Span;
 use conferral::Grant;
+use register::Account;
+use register::Point;
 use register::Refusal;
 use register::Register;
 use register::Verdict;
+
+// Users, as wide as a line names them.
+pub(crate) const USERS: u8 = 64;
+
+// A grant of another amount to another user, at the same point and on the same days.
+pub(crate) fn grant_to(g: Grant, user: u8, amount: u32) -> Grant
+    ensures { λ v. ⌜ v ≡ grantTo g user amount ⌝ }
+{
+    Grant {
+        user,
+        point: g.point,
+        kind: g.kind,
+        first: g.first,
+        last: g.last,
+        amount,
+    }
+}
 
 // The grant of an amount for the whole year, as an annual one from 1 October.
 pub(crate) fn year_grant(year: u16, user: u8, point: u8, amount: u32) -> Grant
@@ -47,54 +67,52 @@ fn line_within_limits(user: u8, asked: u64) -> bool
     ((user as usize) < register::USERS) & ((1 <= asked) & (asked <= register::MOST_AMOUNT as u64))
 }
 
-// Whether a line before line i names the same user.
-fn is_named_before(users: &[u8], i: usize) -> bool
-    requires { ⌜ i < length (now users) ⌝ }
-    ensures { λ v. ⌜ v ≡ namedBefore (now (users .entry)) i ⌝ }
+// Questions 2, 14, 5 and 11 of a line, in a year of so many days: whether an earlier line names its user is known, and so are the
+// account that it names and the point.
+fn line_verdict(days: u16, a: Account, p: Point, user: u8, asked: u64, named: bool) -> Verdict
+    requires { ⌜ days ≤ rowLength ⌝ }
+    ensures { λ v. ⌜ numberOfVerdict v ≡ numberFor days a p user asked named ⌝ }
 {
-    let user = users[i];
-    let mut j: usize = 0;
-    while j < i {
-        if users[j] == user {
-            return true;
-        }
-        j += 1;
-    }
-    false
-}
-
-// Questions 2, 14, 5 and 11 of line i.
-fn line_verdict(r: Register, point: u8, users: &[u8], asked: &[u64], i: usize) -> Verdict
-    requires { ⌜ (isThermalYear (r .year) ≡ true) × ((point < pointCount) × ((i < length (now users)) × (i < length (now asked)))) ⌝ }
-    ensures { λ v. ⌜ numberOfVerdict v ≡ lineNumber r (batch point (now (users .entry)) (now (asked .entry))) i ⌝ }
-{
-    let user = users[i];
-    let amount = asked[i];
-    if !line_within_limits(user, amount) {
+    if !line_within_limits(user, asked) {
         return Verdict::Refused(Refusal::OutOfLimits);
     }
-    if is_named_before(users, i) {
+    if named {
         return Verdict::Refused(Refusal::UserRepeated);
     }
-    let a = r.accounts[user as usize];
     if !register::is_on_file(a) {
         return Verdict::Refused(Refusal::NotOnFile);
     }
-    if !conferral::is_covered(r, year_grant(r.year, user, point, amount as u32)) {
+    if !conferral::covers_charge(a, register::charge_of(asked as u32, days, p.rate)) {
         return Verdict::Refused(Refusal::NotCovered);
     }
     Verdict::Accepted
 }
 
-// The number of each line by these questions.
+// The place of a user among the marks.
+fn place_of(user: u8) -> usize
+    ensures { λ v. ⌜ v ≡ user ⌝ }
+    ensures { λ v. ⌜ v < 256 ⌝ }
+{
+    user as usize
+}
+
+// The number of each line by these questions. Users that lines have named are marked. Of a line whose user is not within limits any
+// account will do.
 pub(crate) fn ask_lines(r: Register, point: u8, users: &[u8], asked: &[u64], numbers: &mut [u8])
     requires { ⌜ (isThermalYear (r .year) ≡ true) × ((point < pointCount) × ((length (now asked) ≡ length (now users)) × (length (now numbers) ≡ length (now users)))) ⌝ }
     ensures { λ _. ⌜ now (numbers .exit) ≡ replaced (now (numbers .entry)) 0 (length (now (users .entry))) (lineNumber r (batch point (now (users .entry)) (now (asked .entry)))) ⌝ }
 {
+    let days = register::days_of_year(r.year) as u16;
+    let p = r.points[point as usize];
+    let mut named = [false; 256];
     let mut i: usize = 0;
     while i < users.len() {
-        let answer = line_verdict(r, point, users, asked, i);
+        let user = users[i];
+        let place = place_of(user);
+        let a = r.accounts[(user % USERS) as usize];
+        let answer = line_verdict(days, a, p, user, asked[i], named[place]);
         numbers[i] = register::verdict_number(answer);
+        named[place] = true;
         i += 1;
     }
 }

@@ -1,29 +1,26 @@
 -- Laws of grants that a register has room for.
 -- Assumes nothing.
-use mathlib.Core.Path.{_≡_, refl, sym, ap, _∙_}
+use mathlib.Core.Path.{_≡_, refl, sym, ap}
 use mathlib.Core.Bool.{Bool, true, false}
-use mathlib.Core.List.{List}
 use Prim.Native.Nat.{ℕ, _+_, _≤_, _<_, min}
 use native.Mathlib.Nat.{mul-le-mul}
 use native.Mathlib.Omega.{arith}
 use lib.Dec.{leb}
 use borrow.Author.Tests.{ltb-true, leb-true, leb-false, lt-ltb, le-leb}
-use Rattle.calendar.specs.ThermalYears.{isThermalYear, inThermalYear}
+use Rattle.days.specs.Days.{lastDay}
+use Rattle.calendar.specs.ThermalYears.{isThermalYear}
 use Rattle.days.proofs.Ranges.{and-left, and-right, both, Within, within, is-between}
 use Rattle.parts.specs.declared.accounts.Account.{Account}
-use Rattle.register.specs.declared.ledger.Line.{Line}
 use Rattle.parts.specs.declared.registers.Register.{Register}
 use Rattle.parts.specs.Limits.{pointCount, userCount, lineCount, rowLength, mostAmount}
-use Rattle.parts.specs.Registers.{State, state, accountAt, withCommitment, withLines}
-use Rattle.register.specs.Ledger.{withLine}
-use Rattle.amounts.specs.Amounts.{entryIn, taken}
+use Rattle.parts.specs.Tests.{every}
+use Rattle.parts.specs.Registers.{accountAt, withCommitment}
 use Rattle.parts.specs.Charges.{charge, mostWord, chargeWord, charged}
 use Rattle.parts.proofs.TestLaws.{every-at}
-use Rattle.amounts.proofs.CalendarLaws.{year-facts, day-in}
-use Rattle.amounts.proofs.AmountLaws.{entry-in}
+use Rattle.amounts.proofs.CalendarLaws.{year-facts}
 use Rattle.conferral.specs.declared.bookings.Grant.{Grant}
-use Rattle.spans.specs.Spans.{spanFits}
-use Rattle.conferral.specs.Bookings.{covers, linesLeft, daysOf, chargeOf, committed, withCharge, lineOf, booked, limitTests, withinLimits, chargeWithin, isCovered, hasRoom, bookAfter}
+use Rattle.spans.specs.Spans.{spanFits, spanInYear}
+use Rattle.conferral.specs.Bookings.{covers, linesLeft, daysOf, chargeOf, committed, fieldTests, withinLimits, chargeWithin, isCovered, hasRoom}
 use Rattle.spans.proofs.SpanLaws.{FitFacts, fit-facts, span-fits}
 
 -- tests that hold of the same numbers are the same
@@ -55,34 +52,33 @@ module _ (y : ℕ) (g : Grant) where
   pub limits : withinLimits y g ≡ true → LimitFacts y g
   unfolding withinLimits
   limits h =
-      let span = every-at (limitTests y g) 0 h in
+      let span = and-left (spanInYear y (g .first) (g .last)) (every (fieldTests g)) h in
+      let fields = and-right (spanInYear y (g .first) (g .last)) (every (fieldTests g)) h in
       record {
         year = and-left (isThermalYear y) (spanFits y (g .first) (g .last)) span;
         fit = fit-facts y (g .first) (g .last) (and-right (isThermalYear y) (spanFits y (g .first) (g .last)) span);
-        user = ltb-true _ _ (every-at (limitTests y g) 1 h);
-        point = ltb-true _ _ (every-at (limitTests y g) 2 h);
-        kind = within 1 3 (g .kind) (every-at (limitTests y g) 3 h);
-        amount = within 1 mostAmount (g .amount) (every-at (limitTests y g) 4 h);
+        user = ltb-true _ _ (every-at (fieldTests g) 0 fields);
+        point = ltb-true _ _ (every-at (fieldTests g) 1 fields);
+        kind = within 1 3 (g .kind) (every-at (fieldTests g) 2 fields);
+        amount = within 1 mostAmount (g .amount) (every-at (fieldTests g) 3 fields);
       }
 
   pub within-limits : LimitFacts y g → withinLimits y g ≡ true
   unfolding withinLimits
   within-limits w =
       both _ _
+      (both _ _ (w .year) (span-fits y (g .first) (g .last) (w .fit)))
       (both _ _
-      (both _ _
-      (both _ _ (both _ _ (w .year) (span-fits y (g .first) (g .last) (w .fit))) (lt-ltb _ _ (w .user)))
-      (lt-ltb _ _ (w .point)))
-      (is-between 1 3 (g .kind) (w .kind .from) (w .kind .to)))
-      (is-between 1 mostAmount (g .amount) (w .amount .from) (w .amount .to))
+      (both _ _ (both _ _ (lt-ltb _ _ (w .user)) (lt-ltb _ _ (w .point))) (is-between 1 3 (g .kind) (w .kind .from) (w .kind .to)))
+      (is-between 1 mostAmount (g .amount) (w .amount .from) (w .amount .to)))
 
   -- its days are at most 366
   pub days-most : LimitFacts y g → daysOf g ≤ rowLength
   days-most w = omega (arith, w .fit .begins, w .fit .ordered, w .fit .ends, year-facts y (w .year) .most)
 
-  -- its first day lies in the year
-  first-in : LimitFacts y g → inThermalYear y (g .first) ≡ true
-  first-in w = day-in y (g .first) (w .year) (w .fit .begins) (omega (arith, w .fit .ordered, w .fit .ends))
+  -- its charge can be found
+  pub charge-bounds : LimitFacts y g → (g .first ≤ g .last) × ((g .last ≤ lastDay) × ((daysOf g ≤ rowLength) × (g .amount ≤ mostAmount)))
+  charge-bounds w = (w .fit .ordered, (omega (arith, w .fit .ends, year-facts y (w .year) .last), (days-most w, w .amount .to)))
 
 -- its charge
 pub charge-within : (r : Register) (g : Grant) → LimitFacts (r .year) g → chargeWithin r g ≡ chargeOf r g
@@ -118,23 +114,6 @@ module _ (r : Register) (g : Grant) where
   unfolding hasRoom isCovered
   has-room w =
       both _ _ (both _ _ (within-limits (r .year) g (w .limits)) (le-leb _ _ (w .covered))) (le-leb (r .lines + 1) lineCount (omega (arith, w .line)))
-
--- the register and the lists as the code leaves them
-pub booked-as : (r : Register) (f ls : List ℕ) (g : Grant) → hasRoom r g ≡ true → (place : ℕ) (rv : Register) (h m : List ℕ) (l : Line)
-    → place ≡ entryIn (r .year) (g .point) (g .first)
-    → h ≡ taken f place (daysOf g) (g .amount)
-    → l ≡ lineOf g
-    → m ≡ withLine ls (r .lines) l
-    → rv ≡ withLines (withCharge r (g .user) (chargeOf r g)) (r .lines + 1)
-    → state rv h m ≡ bookAfter (state r f ls) g
-unfolding bookAfter booked
-booked-as r f ls g fits place rv h m l at taken-so line-so written-so register-so =
-    let e = at ∙ entry-in (r .year) (g .point) (g .first) (first-in (r .year) g (room r g fits .limits)) in
-    rw (fits, register-so, written-so, line-so, taken-so, e)
-
-pub not-booked : (s : State) (g : Grant) → hasRoom (s .register) g ≡ false → s ≡ bookAfter s g
-unfolding bookAfter
-not-booked s g h = rw h
 
 -- a commitment is raised by just the charge where 64 bits hold the sum
 pub charged-exact : (a : Account) (c : ℕ) → a .commitment + c ≤ mostWord → charged a c ≡ committed a c

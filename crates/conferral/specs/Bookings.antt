@@ -6,6 +6,7 @@ use mathlib.Core.List.{List, [], _∷_}
 use lib.Dec.{leb, ltb}
 use lib.IntN.{pos}
 use Rattle.days.specs.Days.{between}
+use Rattle.parts.specs.declared.points.Point.{Point}
 use Rattle.parts.specs.declared.accounts.Account.{Account}
 use Rattle.register.specs.declared.ledger.Line.{Line}
 use Rattle.parts.specs.declared.registers.Register.{Register}
@@ -31,8 +32,11 @@ abbrev pub daysOf : Grant → ℕ
 daysOf g = spanDays (g .first) (g .last)
 
 -- "A charge is amount × days of the span × rate.": at the rate of the point
+abbrev pub chargeAt : Point → Grant → ℕ
+chargeAt p g = charge (g .amount) (daysOf g) (p .rate)
+
 abbrev pub chargeOf : Register → Grant → ℕ
-chargeOf r g = charge (g .amount) (daysOf g) (pointAt (r .points) (g .point) .rate)
+chargeOf r g = chargeAt (pointAt (r .points) (g .point)) g
 
 -- "its charge joins the commitment"
 abbrev pub committed : Account → ℕ → Account
@@ -53,18 +57,18 @@ booked s g =
     (taken (s .free) (entryOf (s .register .year) (g .point) (g .first)) (daysOf g) (g .amount))
     (withLine (s .ledger) (s .register .lines) (lineOf g))
 
--- a grant whose fields are within limits, its span among them
-abbrev pub limitTests : ℕ → Grant → List Bool
-limitTests y g =
-    spanInYear y (g .first) (g .last)
-    ∷ ltb (g .user) userCount
+-- the user, the point, the kind and the amount of a grant within limits
+abbrev pub fieldTests : Grant → List Bool
+fieldTests g =
+    ltb (g .user) userCount
     ∷ ltb (g .point) pointCount
     ∷ between 1 3 (g .kind)
     ∷ between 1 mostAmount (g .amount)
     ∷ []
 
+-- a grant whose fields are within limits, its span among them
 unfoldable pub withinLimits : ℕ → Grant → Bool
-withinLimits y g = every (limitTests y g)
+withinLimits y g = spanInYear y (g .first) (g .last) && every (fieldTests g)
 
 -- the charge of such a grant; of any other the largest number that 64 bits hold, which no guarantee covers
 unfoldable pub chargeWithin : Register → Grant → ℕ

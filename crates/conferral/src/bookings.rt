@@ -1,12 +1,13 @@
 // Grants: their charge, what a guarantee covers, and how they are booked.
 ghost use mathlib.Core.Path.{_≡_};
 ghost use mathlib.Core.Bool.{true};
-ghost use Prim.Native.Nat.{_≤_, _+_};
+ghost use Prim.Native.Nat.{_≤_};
 ghost use Rattle.days.specs.Days.{lastDay};
 ghost use Rattle.parts.specs.Limits.{rowLength, mostAmount};
-ghost use Rattle.parts.specs.Registers.{state, withLines};
-ghost use Rattle.parts.specs.Charges.{charge};
-ghost use Rattle.conferral.specs.Bookings.{covers, daysOf, chargeOf, committed, withCharge, lineOf, withinLimits, chargeWithin, isCovered, hasRoom, bookAfter};
+ghost use Rattle.parts.specs.Tests.{every};
+ghost use Rattle.parts.specs.Registers.{state};
+ghost use Rattle.conferral.specs.Bookings.{covers, daysOf, chargeAt, committed, lineOf, fieldTests, withinLimits, chargeWithin, isCovered, bookAfter};
+ghost use Rattle.conferral.specs.Postings.{daysOrdered, roomFor, posting, postAfter};
 use register::Account;
 use register::Line;
 use register::Point;
@@ -24,32 +25,41 @@ pub struct Grant {
     pub amount: u32,
 }
 
-// Whether a grant's fields are within limits.
+// What a booking leaves of the account and of the number of lines, and the amount that is booked: that of the grant, or 0.
+pub struct Posted {
+    pub account: Account,
+    pub lines: u16,
+    pub amount: u32,
+}
+
+// Users and points, as wide as a grant names them.
+const USERS: u8 = 64;
+
+const POINTS: u8 = 32;
+
+// Whether user, point, kind and amount of a grant are within limits.
+fn fields_within_limits(g: Grant) -> bool
+    ensures { λ v. ⌜ v ≡ every (fieldTests g) ⌝ }
+{
+    (g.user < USERS)
+        & (g.point < POINTS)
+        & ((1 <= g.kind) & (g.kind <= 3))
+        & ((1 <= g.amount) & (g.amount <= register::MOST_AMOUNT))
+}
+
+// Whether a grant's fields are within limits, its span among them.
 fn is_within_limits(year: u16, g: Grant) -> bool
     ensures { λ v. ⌜ v ≡ withinLimits year g ⌝ }
 {
-    is_span(year, g.first, g.last)
-        & ((g.user as usize) < register::USERS)
-        & ((g.point as usize) < register::POINTS)
-        & ((1 <= g.kind) & (g.kind <= 3))
-        & ((1 <= g.amount) & (g.amount <= register::MOST_AMOUNT))
+    is_span(year, g.first, g.last) & fields_within_limits(g)
 }
 
 // The charge of a grant at a point.
 fn charge_at(p: Point, g: Grant) -> u64
     requires { ⌜ (g .first ≤ g .last) × ((g .last ≤ lastDay) × ((daysOf g ≤ rowLength) × (g .amount ≤ mostAmount))) ⌝ }
-    ensures { λ v. ⌜ v ≡ charge (g .amount) (daysOf g) (p .rate) ⌝ }
+    ensures { λ v. ⌜ v ≡ chargeAt p g ⌝ }
 {
     register::charge_of(g.amount, g.last + 1 - g.first, p.rate)
-}
-
-// The charge of a grant within limits.
-fn grant_charge(r: Register, g: Grant) -> u64
-    requires { ⌜ withinLimits (r .year) g ≡ true ⌝ }
-    ensures { λ v. ⌜ v ≡ chargeOf r g ⌝ }
-{
-    let p = r.points[g.point as usize];
-    charge_at(p, g)
 }
 
 // The charge of a grant within limits; of any other the largest number, which no guarantee covers.
@@ -59,7 +69,8 @@ pub fn charge_within(r: Register, g: Grant) -> u64
     if !is_within_limits(r.year, g) {
         return register::MOST_WORD;
     }
-    grant_charge(r, g)
+    let p = r.points[g.point as usize];
+    charge_at(p, g)
 }
 
 // Whether a guarantee covers the commitment and a charge more.
@@ -80,15 +91,9 @@ pub fn is_covered(r: Register, g: Grant) -> bool
         return false;
     }
     let a = r.accounts[g.user as usize];
-    covers_charge(a, grant_charge(r, g))
-}
-
-// Whether a grant is booked: a line is left for it too. What is free, and whether the point is open and the user on file, is asked
-// before.
-fn has_room(r: Register, g: Grant) -> bool
-    ensures { λ v. ⌜ v ≡ hasRoom r g ⌝ }
-{
-    is_covered(r, g) & ((r.lines as usize) < register::LINES)
+    let p = r.points[g.point as usize];
+    let charge = charge_at(p, g);
+    covers_charge(a, charge)
 }
 
 // The ledger line of a grant.
@@ -113,18 +118,44 @@ fn charged_account(a: Account, charge: u64) -> Account
     a.charged(charge)
 }
 
-// The register with a grant's charge in the commitment of its user, and a line more.
-fn charged_register(r: Register, g: Grant) -> Register
-    requires { ⌜ hasRoom r g ≡ true ⌝ }
-    ensures { λ v. ⌜ v ≡ withLines (withCharge r (g .user) (chargeOf r g)) (r .lines + 1) ⌝ }
+// Whether the days of a grant follow each other and are no more than a year has.
+fn is_ordered(g: Grant) -> bool
+    ensures { λ v. ⌜ v ≡ daysOrdered g ⌝ }
 {
-    let charge = grant_charge(r, g);
-    let a = r.accounts[g.user as usize];
-    let b = charged_account(a, charge);
-    let mut s = r;
-    s.accounts[g.user as usize] = b;
-    s.lines = r.lines + 1;
-    s
+    (g.first <= g.last)
+        & ((g.last <= days::LAST_DAY) & (g.last as usize + 1 <= g.first as usize + register::ROW))
+}
+
+// Whether the fields of a grant are within limits and its days in order, an account covers it at a point, and a line is left for it.
+// Whether the days lie in the year, the point is open, the user on file and the amount free is asked before.
+fn has_room(lines: u16, a: Account, p: Point, g: Grant) -> bool
+    ensures { λ v. ⌜ v ≡ roomFor lines a p g ⌝ }
+{
+    if !(fields_within_limits(g) & is_ordered(g)) {
+        return false;
+    }
+    covers_charge(a, charge_at(p, g)) & ((lines as usize) < register::LINES)
+}
+
+// Books a grant to the account of its user, at the point that it names: its charge joins the commitment and its line is written.
+// Where there is no room for it, everything is left. A batch books its shares so, one after another, and carries no register along.
+pub fn post(lines: u16, a: Account, p: Point, ledger: &mut [u32], g: Grant) -> Posted
+    ensures { λ v. ⌜ posting (v .account) (v .lines) (v .amount) (now (ledger .exit)) ≡ postAfter lines a p g (now (ledger .entry)) ⌝ }
+{
+    if !has_room(lines, a, p, g) {
+        return Posted {
+            account: a,
+            lines,
+            amount: 0,
+        };
+    }
+    let next = lines as usize;
+    register::write_line(ledger, next, line_of(g));
+    Posted {
+        account: charged_account(a, charge_at(p, g)),
+        lines: lines + 1,
+        amount: g.amount,
+    }
 }
 
 // Books a grant: takes it from each of its days, adds its charge to the commitment and writes its line. Where the register has no
@@ -132,17 +163,19 @@ fn charged_register(r: Register, g: Grant) -> Register
 pub fn book(r: Register, free: &mut [u32], ledger: &mut [u32], g: Grant) -> Register
     ensures { λ v. ⌜ state v (now (free .exit)) (now (ledger .exit)) ≡ bookAfter (state r (now (free .entry)) (now (ledger .entry))) g ⌝ }
 {
-    if !has_room(r, g) {
+    if !is_span(r.year, g.first, g.last) {
         return r;
     }
+    let user = (g.user % USERS) as usize;
+    let a = r.accounts[user];
+    let p = r.points[(g.point % POINTS) as usize];
+    let posted = post(r.lines, a, p, ledger, g);
     let places = g.last as usize + 1 - g.first as usize;
-    register::take_free(
-        free,
-        register::entry_in(r.year, g.point, g.first),
-        places,
-        g.amount,
-    );
-    let next = r.lines as usize;
-    register::write_line(ledger, next, line_of(g));
-    charged_register(r, g)
+    let place = register::entry_in(r.year, g.point, g.first);
+    register::take_free(free, place, places, posted.amount);
+    let b = posted.account;
+    let mut s = r;
+    s.accounts[user] = b;
+    s.lines = posted.lines;
+    s
 }

@@ -5,10 +5,12 @@
 mod bookings;
 
 pub use bookings::Grant;
+pub use bookings::Posted;
 pub use bookings::book;
 pub use bookings::charge_within;
 pub use bookings::covers_charge;
 pub use bookings::is_covered;
+pub use bookings::post;
 pub use spans::annual_span;
 pub use spans::is_arrival;
 pub use spans::is_timely;

@@ -79,7 +79,7 @@ share-out-requires c κs =
 book-shares-requires : tie.Need-book-shares-requires
 book-shares-requires c κs =
     let st = c .before .before .before .before .before .before .before .before .before .before .before .before .before .before .before .before .before .before .before .before .before .before .before .before in
-    (known st .order .year, ap length (shares-are (c .before .before .before .before .before .before .before)) ∙ shares-long (before st) (asked st))
+    (known st .order .year, (known st .point, (ap length (shares-are (c .before .before .before .before .before .before .before)) ∙ shares-long (before st) (asked st), known st .lines .to)))
 
 same-length : tie.Need-same-length
 same-length c = search needs

@@ -1,25 +1,46 @@
+-- `book` meets its contract: the parts that `post` leaves, put together, are the register with the grant booked.
+-- Assumes nothing.
 use mathlib.Core.Path.{_≡_, sym, _∙_}
 use mathlib.Core.Bool.{true}
 use borrow.Author.Tests.{not-true, not-false}
 use Rattle.parts.specs.Registers.{state}
-use Rattle.conferral.specs.Bookings.{hasRoom}
-use Rattle.conferral.proofs.RoomLaws.{Room, room, booked-as, not-booked}
+use Rattle.spans.specs.Spans.{spanInYear}
+use Rattle.conferral.specs.Postings.{posting}
+use Rattle.conferral.proofs.PostingLaws.{span-days, span-out, book-as}
 use native.Mathlib.Omega.{arith}
 use borrow.Author.Needs.{needs}
 use Rattle.conferral.proofs.bookings.book.Statement.{statement}
 use Rattle.conferral.proofs.bookings.book.Tie as tie
 
-fits : (c : tie.Else1) → hasRoom (c .before .before .before .before .args .r) (c .before .before .before .before .args .g) ≡ true
-fits c = sym (c .before .has-room .ensures) ∙ not-false _ (c .if1 .left)
+fits : (c : tie.Else1) → spanInYear (c .before .before .before .before .args .t1 .year) (c .before .before .before .before .args .g .first) (c .before .before .before .before .args .g .last) ≡ true
+fits c = sym (c .before .is-span .ensures) ∙ not-false _ (c .if1 .left)
 
-of-room : (c : tie.Else1) → Room (c .before .before .before .before .args .r) (c .before .before .before .before .args .g)
-of-room c = room (c .before .before .before .before .args .r) (c .before .before .before .before .args .g) (fits c)
-
-has-room-requires : tie.Need-has-room-requires
-has-room-requires c κs = search needs
+is-span-requires : tie.Need-is-span-requires
+is-span-requires c κs = search needs
 
 returns : tie.Need-returns
-returns c = let a = c .before .before .before .before .args in not-booked (state (a .r) (a .free .now) (a .ledger .now)) (a .g) (sym (c .before .has-room .ensures) ∙ not-true _ (c .if1 .taken))
+returns c = let a = c .before .before .before .before .args in span-out (state (a .t1) (a .free .now) (a .ledger .now)) (a .g) (sym (c .before .is-span .ensures) ∙ not-true _ (c .if1 .taken))
+
+cast-user : tie.Need-cast-user
+cast-user c = search needs
+
+mul-a : tie.Need-mul-a
+mul-a c = search needs
+
+element-copy-out-a : tie.Need-element-copy-out-a
+element-copy-out-a c = search needs
+
+cast-p : tie.Need-cast-p
+cast-p c = search needs
+
+mul-p : tie.Need-mul-p
+mul-p c = search needs
+
+element-copy-out-p : tie.Need-element-copy-out-p
+element-copy-out-p c = search needs
+
+post-requires : tie.Need-post-requires
+post-requires c κs = search needs
 
 cast-places : tie.Need-cast-places
 cast-places c = search needs
@@ -31,7 +52,9 @@ cast-places-2 : tie.Need-cast-places-2
 cast-places-2 c = search needs
 
 sub-places : tie.Need-sub-places
-sub-places c = omega (arith, of-room (c .before .before) .limits .fit .ordered)
+sub-places c =
+    let e = c .before .before .before .before .before .before .before .before .before .before in
+    omega (arith, span-days (e .before .before .before .before .args .t1 .year) (e .before .before .before .before .args .g) (fits e))
 
 entry-in-requires : tie.Need-entry-in-requires
 entry-in-requires c κs = search needs
@@ -39,17 +62,11 @@ entry-in-requires c κs = search needs
 take-free-requires : tie.Need-take-free-requires
 take-free-requires c κs = search needs
 
-cast-next : tie.Need-cast-next
-cast-next c = search needs
+mul-b : tie.Need-mul-b
+mul-b c = search needs
 
-line-of-requires : tie.Need-line-of-requires
-line-of-requires c κs = of-room (c .before .before .before .before .before .before .before .before .before) .limits .amount .to
-
-write-line-requires : tie.Need-write-line-requires
-write-line-requires c κs = search needs
-
-charged-register-requires : tie.Need-charged-register-requires
-charged-register-requires c κs = fits (c .before .before .before .before .before .before .before .before .before .before .before .before .before)
+element-set-from-b : tie.Need-element-set-from-b
+element-set-from-b c = search needs
 
 same-length : tie.Need-same-length
 same-length c = search needs
@@ -59,33 +76,31 @@ same-length-2 c = search needs
 
 returns-2 : tie.Need-returns-2
 returns-2 c =
-    let w = c .before .before .before in
-    let t = w .before .before .before .before .before .before in
-    let e = c .before .before .before .before .before .before .before .before .before .before .before .before .before .before in
-    let st = e .before .before .before .before in
-    booked-as (st .args .r) (st .args .free .now) (st .args .ledger .now) (st .args .g) (fits e) _ _ _ _ _
-    (t .before .entry-in .ensures)
-    (t .take-free .ensures)
-    (w .before .line-of .ensures)
-    (w .write-line .ensures)
-    (c .charged-register .ensures)
+    let e = c .before .before .before .before .before .before .before .before .before .before .before .before .before .before .before .before in
+    let a = e .before .before .before .before .args in
+    book-as (a .t1) (a .g) (a .free .now) (a .ledger .now) (fits e) (posting _ _ _ _) _ _ (c .before .before .before .before .before .before .before .before .before .before .post .ensures) (c .before .before .before .before .before .entry-in .ensures) (c .before .before .before .take-free .ensures)
 
 pub book-spec : {M : Type 1} → statement M
 book-spec =
     tie.close
     (tie.spec
-    has-room-requires
+    is-span-requires
     returns
+    cast-user
+    mul-a
+    element-copy-out-a
+    cast-p
+    mul-p
+    element-copy-out-p
+    post-requires
     cast-places
     add-places
     cast-places-2
     sub-places
     entry-in-requires
     take-free-requires
-    cast-next
-    line-of-requires
-    write-line-requires
-    charged-register-requires
+    mul-b
+    element-set-from-b
     same-length
     same-length-2
     returns-2)
