@@ -180,11 +180,11 @@ fn moved_register(r: Register, c: Cession, charge: u64) -> Register
     requires { ⌜ (cessionFields c ≡ true) × ((receiverOf r c .guarantee ≤ mostGuarantee) × ((covers (receiverOf r c) charge ≡ true) × (r .lines + 2 ≤ lineCount))) ⌝ }
     ensures { λ v. ⌜ v ≡ withLines (chargeMoved r c charge) (r .lines + 2) ⌝ }
 {
-    let giver = r.accounts[c.giver as usize];
-    let receiver = r.accounts[c.receiver as usize];
+    let mut s = r;
+    let giver = s.accounts[c.giver as usize];
+    let receiver = s.accounts[c.receiver as usize];
     let lowered = giver.discharged(charge);
     let raised = receiver.charged(charge);
-    let mut s = r;
     s.accounts[c.giver as usize] = lowered;
     s.accounts[c.receiver as usize] = raised;
     s.lines = r.lines + LINES_WRITTEN as u16;

@@ -32,10 +32,10 @@ fn with_user_on_file(r: Register, user: u8, guarantee: u64) -> Register
     requires { ⌜ user < userCount ⌝ }
     ensures { λ v. ⌜ v ≡ withAccount r user (pledged (accountAt (r .accounts) user) guarantee) ⌝ }
 {
-    let mut a = r.accounts[user as usize];
+    let mut s = r;
+    let mut a = s.accounts[user as usize];
     a.on_file = 1;
     a.guarantee = guarantee;
-    let mut s = r;
     s.accounts[user as usize] = a;
     s
 }

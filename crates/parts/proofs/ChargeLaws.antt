@@ -16,6 +16,13 @@ no-charge amount days rate z =
     let e : charge amount days rate ≡ 0 = ap (λ (r : ℕ). amount * days * r) z ∙ mul-zero (amount * days) in
     omega arith
 
+-- a product of two numbers of 32 bits
+abbrev pub mostHalf : ℕ
+mostHalf = 4294967295
+
+pub halves-fit : (v r : ℕ) → v ≤ mostHalf → r ≤ mostHalf → v * r ≤ mostWord
+halves-fit v r a b = omega (arith, mul-le-mul a b)
+
 -- a product that 64 bits hold, told by a quotient
 pub product-over : (v r : ℕ) → 0 < r → mostWord / r < v → mostWord < v * r
 product-over v r p h = div-lt-iff-lt-mul p .0 h

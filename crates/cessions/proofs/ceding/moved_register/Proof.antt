@@ -57,13 +57,13 @@ cast-s : tie.Need-cast-s
 cast-s c = search needs
 
 add-s : tie.Need-add-s
-add-s c = omega (arith, c .before .before .before .before .before .before .before .before .pre .1 .1 .1)
+add-s c = omega (arith, c .before .before .before .before .before .before .before .before .before .pre .1 .1 .1)
 
 returns : tie.Need-returns
 returns c =
-    let k = c .before .before in
+    let k = c .before .before .before in
     let st = k .before .before .before .before .before .before in
-    let r = st .args .t1 in
+    let r = st .args .r in
     let a = receiverOf r (st .args .c) in
     let raised = k .charged .ensures ∙ charged-exact a (st .args .charge) (omega (arith, leb-true (a .commitment + st .args .charge) (a .guarantee) (st .pre .1 .1 .0), st .pre .1 .0)) in
     ap (λ (x : Register). withLines x (r .lines + 2)) (moved-as r (st .args .c) (st .args .charge) _ _ (fields (st .args .c) (st .pre .0)) (k .before .discharged .ensures) raised)
