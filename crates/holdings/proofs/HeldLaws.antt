@@ -50,6 +50,12 @@ module _ (short : ℕ → Bool) (last d : ℕ) where
       let n : spanDays (d + 1) last ≡ last - d = omega arith in
       rw (e, t, n, add-one)
 
+-- tests that agree on the n days from d on
+pub first-same-days : (p q : ℕ → Bool) (n d : ℕ) → ((e : ℕ) → d ≤ e → e < d + n → p e ≡ q e) → firstShort p n d ≡ firstShort q n d
+unfolding firstShort
+first-same-days p q zero d h = refl
+first-same-days p q (suc n) d h = rw (h d (omega arith) (omega arith), first-same-days p q n (suc d) (λ e f t. h e (omega arith) (omega arith)))
+
 pub first-same : (p q : ℕ → Bool) → ((d : ℕ) → p d ≡ q d) → (n d : ℕ) → firstShort p n d ≡ firstShort q n d
 unfolding firstShort
 first-same p q h zero d = refl
@@ -166,7 +172,5 @@ pub gathered-answer : (y n k : ℕ) (ls : List ℕ) (h : Holding) (c : Gathered)
     → firstShort (gatheredShort c (h .amount)) (spanDays (h .first) (h .last)) (h .first) ≡ heldAnswer y n ls h
 unfolding heldAnswer heldIn
 gathered-answer y n k ls h c e w =
-    first-same (gatheredShort c (h .amount)) (shortIn y n ls h)
-    (λ d. ap (λ (z : ℤ). ltZ z (pos (h .amount))) (sym (w .sums d) ∙ ap (λ (m : ℕ). signedSum m (partIn y ls (h .user) (h .point) d)) e))
-    (spanDays (h .first) (h .last))
-    (h .first)
+    first-same-days (gatheredShort c (h .amount)) (shortIn y n ls h) (spanDays (h .first) (h .last)) (h .first)
+    (λ d f t. ap (λ (z : ℤ). ltZ z (pos (h .amount))) (sym (w .sums d f (omega arith)) ∙ ap (λ (m : ℕ). signedSum m (partIn y ls (h .user) (h .point) d)) e))

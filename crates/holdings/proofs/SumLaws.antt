@@ -1,6 +1,6 @@
 -- Laws of signed sums, and of a signed local of 64 bits that holds one.
 -- Assumes nothing.
-use mathlib.Core.Path.{_≡_, refl, ap, ap₂, _∙_}
+use mathlib.Core.Path.{_≡_, refl, ap₂, _∙_}
 use mathlib.Core.Bool.{Bool, true, false, cond}
 use Prim.Native.Nat.{ℕ, zero, suc, _+_, _-_, _*_, _≤_, _<_}
 use native.Mathlib.Nat.{le-trans, lt-trans, lt-of-le-of-lt, mul-le-mul-left}
@@ -47,16 +47,26 @@ sum-mag (negsuc a) (negsuc b) = omega arith
 pub widened : {z : ℤ} → mag z < 2147483648 → SFits w64 z
 widened h = record { sfits = lt-trans h (lit< tt) }
 
--- one more of at most 2,048 numbers of 32 bits: the local holds the sum
-module _ (held : ℕ) (x : ℤ) (k : ℕ) (small : mag (toZ w64 held) ≤ 2147483648 * k) (few : k < lineCount) (bound : mag x < 2147483648) where
-  pub added-small : mag (toZ w64 held +ℤ x) ≤ 2147483648 * (k + 1)
-  added-small = le-trans (sum-mag (toZ w64 held) x) (omega arith)
+-- the sum of at most 4,096 numbers of 32 bits does, and a field holds it
+sum-fits : (z : ℤ) (k : ℕ) → mag z ≤ 2147483648 * k → k ≤ 2 * lineCount → SFits w64 z
+sum-fits z k small few = record { sfits = lt-of-le-of-lt small (lt-of-le-of-lt (mul-le-mul-left 2147483648 most) (lit< tt)) }
+  where
+    most : k ≤ 4096
+    most = omega arith
+
+pub field-held : (z : ℤ) (k : ℕ) → mag z ≤ 2147483648 * k → k ≤ 2 * lineCount → toZ w64 (ofZ w64 z) ≡ z
+field-held z k small few = toZ-ofZ {w = w64} (sum-fits z k small few)
+
+-- one more number: the local holds the sum
+module _ (held : ℕ) (z x : ℤ) (k : ℕ) (e : toZ w64 held ≡ z) (small : mag z ≤ 2147483648 * k) (few : k < 2 * lineCount) (bound : mag x < 2147483648) where
+  pub added-small : mag (z +ℤ x) ≤ 2147483648 * (k + 1)
+  added-small = le-trans (sum-mag z x) (omega arith)
+
+  both : toZ w64 held +ℤ toZ w64 (ofZ w64 x) ≡ z +ℤ x
+  both = ap₂ _+ℤ_ e (toZ-ofZ {w = w64} {z = x} (widened bound))
 
   pub added-fits : SFits w64 (toZ w64 held +ℤ toZ w64 (ofZ w64 x))
-  added-fits = rw (toZ-ofZ {w = w64} {z = x} (widened bound)) (record { sfits = lt-of-le-of-lt added-small (lt-of-le-of-lt (mul-le-mul-left 2147483648 most) (lit< tt)) })
-    where
-      most : k + 1 ≤ 2048
-      most = omega arith
+  added-fits = rw both (sum-fits (z +ℤ x) (k + 1) added-small (omega arith))
 
-  pub added : toZ w64 (ofZ w64 (toZ w64 held +ℤ toZ w64 (ofZ w64 x))) ≡ toZ w64 held +ℤ x
-  added = toZ-ofZ {w = w64} added-fits ∙ ap (λ (z : ℤ). toZ w64 held +ℤ z) (toZ-ofZ {w = w64} {z = x} (widened bound))
+  pub added : toZ w64 (ofZ w64 (toZ w64 held +ℤ toZ w64 (ofZ w64 x))) ≡ z +ℤ x
+  added = toZ-ofZ {w = w64} added-fits ∙ both

@@ -8,10 +8,10 @@ use calendar::GasDay;
 use calendar::Span;
 use register::Line;
 
-// The first and the last day of a thermal year, as numbers of a ledger line.
+// The first and the last day of a thermal year.
 pub(crate) struct Bounds {
-    pub first: u32,
-    pub last: u32,
+    pub first: u16,
+    pub last: u16,
 }
 
 // The days of a thermal year. Where there is none the first is after the last, and no day lies between them.
@@ -20,29 +20,26 @@ pub(crate) fn bounds_of(year: u16) -> Bounds
 {
     let span = calendar::thermal_year(year);
     match span {
-        Span::Days(first, last) => Bounds {
-            first: first as u32,
-            last: last as u32,
-        },
+        Span::Days(first, last) => Bounds { first, last },
         Span::OutsideCalendar => Bounds { first: 1, last: 0 },
     }
 }
 
 // The last day of the month of a day.
-fn month_end(day: u32) -> u32
+fn month_end(day: u32) -> u16
     requires { ⌜ nextFirst day ≤ lastDay ⌝ }
     ensures { λ v. ⌜ v ≡ nextFirst day - 1 ⌝ }
 {
     let next = calendar::next_first(day as u16);
     match next {
-        GasDay::Day(first) => (first - 1) as u32,
+        GasDay::Day(first) => first - 1,
         // Not reached: the next month lies in the calendar.
         GasDay::OutsideCalendar => 0,
     }
 }
 
 // The last day of a line: annual lines end with the year, month lines with the month, day lines on that day.
-pub(crate) fn line_end(l: Line, last: u32) -> u32
+pub(crate) fn line_end(l: Line, last: u16) -> u16
     requires { ⌜ nextFirst (l .first) ≤ lastDay ⌝ }
     ensures { λ v. ⌜ v ≡ endOf last l ⌝ }
 {
@@ -52,5 +49,5 @@ pub(crate) fn line_end(l: Line, last: u32) -> u32
     if l.kind == 2 {
         return month_end(l.first);
     }
-    l.first
+    l.first as u16
 }

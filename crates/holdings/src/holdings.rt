@@ -1,11 +1,11 @@
 // Whether a user holds an amount on every day of a span, and else the first gas-day with too little.
 ghost use mathlib.Core.Path.{_≡_};
-ghost use Prim.Native.Nat.{_≤_, min};
-ghost use lib.ListN.{length};
+ghost use Prim.Native.Nat.{_*_, _≤_, min};
+ghost use lib.Signed.{mag};
 ghost use Rattle.parts.specs.Limits.{lineCount};
 ghost use Rattle.amounts.specs.Amounts.{spanDays};
 ghost use Rattle.holdings.specs.Holdings.{firstShort, heldAnswer};
-ghost use Rattle.holdings.specs.Steps.{gatheredShort};
+ghost use Rattle.holdings.specs.Steps.{Sized, gatheredShort};
 use crate::gathering::Gathered;
 use crate::gathering::gather;
 use crate::gathering::part_on;
@@ -29,7 +29,7 @@ pub enum Held {
 // The first gas-day from first to last on which the lines gathered sum to less than the amount: a loop over the days around a loop
 // over the ledger lines, left by label with the short day. The test stands inside the inner loop, so that one `break` leaves both.
 fn short_day(gathered: Gathered, first: u16, last: u16, amount: u32) -> Held
-    requires { ⌜ (gathered .count ≤ lineCount) × (length (gathered .lines) ≡ lineCount) ⌝ }
+    requires { ⌜ (gathered .count ≤ lineCount) × (Sized gathered × (mag (gathered .base) ≤ 2147483648 * lineCount)) ⌝ }
     ensures { λ v. ⌜ v ≡ firstShort (gatheredShort gathered amount) (spanDays first last) first ⌝ }
 {
     let mut day = first as u32;
@@ -37,7 +37,7 @@ fn short_day(gathered: Gathered, first: u16, last: u16, amount: u32) -> Held
         if (last as u32) < day {
             break 'days Held::Throughout;
         }
-        let mut sum: i64 = 0;
+        let mut sum = gathered.base;
         let mut k: usize = 0;
         'lines: loop {
             if gathered.count <= k {
@@ -46,8 +46,12 @@ fn short_day(gathered: Gathered, first: u16, last: u16, amount: u32) -> Held
                 }
                 break 'lines;
             }
-            let c = gathered.lines[k];
-            sum += part_on(c, day);
+            sum += part_on(
+                gathered.firsts[k],
+                gathered.lasts[k],
+                gathered.amounts[k],
+                day as u16,
+            );
             k += 1;
         }
         day += 1;

@@ -10,12 +10,6 @@ thermal-year-requires c κs = search needs
 enum-known-span : tie.Need-enum-known-span
 enum-known-span c = search needs
 
-cast-t6 : tie.Need-cast-t6
-cast-t6 c = search needs
-
-cast-t7 : tie.Need-cast-t7
-cast-t7 c = search needs
-
 enum-told : tie.Need-enum-told
 enum-told c = search needs
 
@@ -30,4 +24,4 @@ returns-2 c = rw (no-year _ (sym (c .before .before .thermal-year .ensures) ∙ 
 pub bounds-of-spec : {M : Type 1} → statement M
 bounds-of-spec =
     tie.close
-    (tie.spec thermal-year-requires enum-known-span cast-t6 cast-t7 enum-told returns returns-2)
+    (tie.spec thermal-year-requires enum-known-span enum-told returns returns-2)

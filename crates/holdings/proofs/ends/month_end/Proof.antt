@@ -25,9 +25,6 @@ next-is c =
 sub-result : tie.Need-sub-result
 sub-result c = omega (arith, next-is c, before-next (c .before .before .before .before .args .day))
 
-cast-result : tie.Need-cast-result
-cast-result c = search needs
-
 enum-told : tie.Need-enum-told
 enum-told c = search needs
 
@@ -45,7 +42,6 @@ month-end-spec =
     next-first-requires
     enum-known-next
     sub-result
-    cast-result
     enum-told
     returns
     returns-2)

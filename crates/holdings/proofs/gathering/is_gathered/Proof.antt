@@ -9,8 +9,14 @@ cast-result c = search needs
 cast-result-2 : tie.Need-cast-result-2
 cast-result-2 c = search needs
 
+cast-result-3 : tie.Need-cast-result-3
+cast-result-3 c = search needs
+
+cast-result-4 : tie.Need-cast-result-4
+cast-result-4 c = search needs
+
 returns : tie.Need-returns
 returns c = refl
 
 pub is-gathered-spec : {M : Type 1} → statement M
-is-gathered-spec = tie.close (tie.spec cast-result cast-result-2 returns)
+is-gathered-spec = tie.close (tie.spec cast-result cast-result-2 cast-result-3 cast-result-4 returns)

@@ -10,8 +10,8 @@ use Rattle.holdings.proofs.gathering.part_on.Statement.{statement}
 use Rattle.holdings.proofs.gathering.part_on.Tie as tie
 
 -- the amount of a line fits 64 bits too
-fits : (c : tie.After-struct-told) → SFits w32 (c .before .before .before .before .before .args .c .amount)
-fits c = record { sfits = c .struct-told .given .1 .1 .0 .1 }
+fits : (c : tie.Then1) → SFits w32 (c .before .args .amount)
+fits c = c .before .fits .amount
 
 cast-result : tie.Need-cast-result
 cast-result c = let f = fits c in rw (toZ-ofZ f) (sfits-widen tt f)
@@ -20,8 +20,8 @@ returns : tie.Need-returns
 returns c =
     let f = fits c in
     let e = ap (λ (z : ℤ). toZ w64 (ofZ w64 z)) (toZ-ofZ f) ∙ toZ-ofZ (sfits-widen tt f) in
-    let a = c .before .before .before .before .before .args in
-    let on-it : between (a .c .first) (a .c .last) (a .day) ≡ true = c .before .before .if1 .taken in
+    let a = c .before .args in
+    let on-it : between (a .first) (a .last) (a .day) ≡ true = c .if1 .taken in
     (e ∙ rw on-it, rw e (f .sfits))
 
 returns-2 : tie.Need-returns-2
