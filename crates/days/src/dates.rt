@@ -8,6 +8,7 @@ ghost use Rattle.days.specs.Answers.{dateAnswer, dayAnswer, nextDateAnsw
 pub const LAST_DAY: u16 = 36524;
 
 // A date: the year, the month of the calendar and the day of the month. It need not exist.
+#[repr(C)]
 pub struct Date {
     pub year: u16,
     pub month: u8,

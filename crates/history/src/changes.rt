@@ -39,6 +39,7 @@ pub enum Change {
 }
 
 // What a call gives back: the register as it then is, the number, and the amount granted or ceded, else 0.
+#[repr(C)]
 pub struct Applied {
     pub register: Register,
     pub number: u8,
@@ -46,7 +47,7 @@ pub struct Applied {
 }
 
 // What a call without an amount gives back.
-fn applied_filed(f: Filed) -> Applied
+pub fn applied_filed(f: Filed) -> Applied
     ensures number { λ v. ⌜ v .number ≡ numberOfVerdict (f .answer) ⌝ }
     ensures amount { λ v. ⌜ v .amount ≡ 0 ⌝ }
     ensures register { λ v. ⌜ v .register ≡ f .register ⌝ }
@@ -61,7 +62,7 @@ fn applied_filed(f: Filed) -> Applied
 }
 
 // What a request gives back.
-fn applied_conferred(c: Conferred) -> Applied
+pub fn applied_conferred(c: Conferred) -> Applied
     ensures number { λ v. ⌜ v .number ≡ numberOfConferral (c .answer) ⌝ }
     ensures amount { λ v. ⌜ v .amount ≡ amountOfConferral (c .answer) ⌝ }
     ensures register { λ v. ⌜ v .register ≡ c .register ⌝ }
@@ -76,7 +77,7 @@ fn applied_conferred(c: Conferred) -> Applied
 }
 
 // What a cession gives back.
-fn applied_ceded(c: Ceded) -> Applied
+pub fn applied_ceded(c: Ceded) -> Applied
     ensures number { λ v. ⌜ v .number ≡ numberOfAnswer (c .answer) ⌝ }
     ensures amount { λ v. ⌜ v .amount ≡ amountOfAnswer (c .answer) ⌝ }
     ensures register { λ v. ⌜ v .register ≡ c .register ⌝ }

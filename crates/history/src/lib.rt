@@ -8,4 +8,7 @@ pub use changes::Applied;
 pub use changes::Change;
 pub use changes::Guarantee;
 pub use changes::Opening;
+pub use changes::applied_ceded;
+pub use changes::applied_conferred;
+pub use changes::applied_filed;
 pub use changes::apply;

@@ -1,34 +1,28 @@
-// The functions that C and Rust programs call. Each is a thin call of a proved function.
+// The functions that C and Rust programs call, one file for each call. Each is a thin call of a proved function and has that
+// function's contract. host/include/ylgrandi.h says the same in C.
 //
-// The register is passed by value; the free amounts and the ledger are slices, each a pointer and a length.
-ghost use mathlib.Core.Path.{_≡_};
-ghost use Rattle.parts.specs.Registers.{state};
-ghost use Rattle.register.specs.Order.{inOrder};
-ghost use Rattle.holdings.specs.Holdings.{heldAnswer, shortDay};
-use holdings::Held;
-use holdings::Holding;
-use register::Register;
+// The register is passed by value and comes back in the answer; the free amounts, the ledger and the lists of a batch are slices,
+// each a pointer and a length. No enum crosses: kinds and numbers do. The date is the one struct that is lent.
+mod ceding;
+mod conferring;
+mod dates;
+mod opening;
+mod placing;
+mod questions;
+mod reporting;
+mod requesting;
+mod starting;
+mod years;
 
-// No gas-day has this number.
-const NO_DAY: u32 = 65_536;
-
-// Question 1: is the register in order?
-#[no_mangle]
-pub extern "C" fn ylgrandi_in_order(r: Register, free: &[u32], ledger: &[u32]) -> bool
-    ensures { λ v. ⌜ v ≡ inOrder (state r (now (free .entry)) (now (ledger .entry))) ⌝ }
-{
-    register::in_order(r, free, ledger)
-}
-
-// Question 10: the first gas-day of the span on which the user holds less than the amount; 65,536 where there is none. In a register
-// that is not in order a line counts only where it begins in the year.
-#[no_mangle]
-pub extern "C" fn ylgrandi_first_short_day(year: u16, lines: u16, ledger: &[u32], h: Holding) -> u32
-    ensures { λ v. ⌜ v ≡ shortDay (heldAnswer year lines (now (ledger .entry)) h) ⌝ }
-{
-    let held = holdings::first_short_day(year, lines, ledger, h);
-    match held {
-        Held::Throughout => NO_DAY,
-        Held::ShortOn(day) => day as u32,
-    }
-}
+pub use ceding::ylgrandi_cession;
+pub use conferring::ylgrandi_batch;
+pub use dates::ylgrandi_next_day;
+pub use opening::ylgrandi_open_point;
+pub use placing::ylgrandi_place_guarantee;
+pub use questions::ylgrandi_first_short_day;
+pub use questions::ylgrandi_in_order;
+pub use reporting::Reported;
+pub use reporting::ylgrandi_report;
+pub use requesting::ylgrandi_request;
+pub use starting::ylgrandi_fresh;
+pub use years::ylgrandi_turn_year;

@@ -1,8 +1,8 @@
 use mathlib.Core.Path.{sym, ap, _∙_}
 use Rattle.holdings.specs.Holdings.{shortDay}
 use borrow.Author.Needs.{needs}
-use Rattle.host.proofs.ylgrandi_first_short_day.Statement.{statement}
-use Rattle.host.proofs.ylgrandi_first_short_day.Tie as tie
+use Rattle.host.proofs.questions.ylgrandi_first_short_day.Statement.{statement}
+use Rattle.host.proofs.questions.ylgrandi_first_short_day.Tie as tie
 
 first-short-day-requires : tie.Need-first-short-day-requires
 first-short-day-requires c κs = search needs
