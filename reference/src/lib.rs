@@ -7,7 +7,7 @@
 pub mod batch;
 pub mod calendar;
 pub mod cession;
-mod numbers;
+pub mod numbers;
 pub mod register;
 pub mod request;
 pub mod runner;
