@@ -1,16 +1,26 @@
-//! Question 1 as it is written in everyday Rust.
+//! Question 1.
 
-use crate::register::*;
-use crate::thermal_year::ThermalYear;
+use ylgrandi::sys::{Account, Point, Register, LEDGER, LINE, LINES, ROW, TABLE};
+
+use super::{Refusal, ThermalYear};
+use crate::limits::*;
+
+/// The thermal year of a register in order, as every call asks for it.
+pub fn year_in_order(r: &Register, free: &[u32], ledger: &[u32]) -> Result<ThermalYear, Refusal> {
+    ThermalYear::new(r.year)
+        .filter(|year| in_order_within(year, r, free, ledger))
+        .ok_or(Refusal::NotInOrder)
+}
 
 pub fn in_order(r: &Register, free: &[u32], ledger: &[u32]) -> bool {
-    let Some(year) = ThermalYear::new(r.year) else {
-        return false;
-    };
+    year_in_order(r, free, ledger).is_ok()
+}
+
+fn in_order_within(year: &ThermalYear, r: &Register, free: &[u32], ledger: &[u32]) -> bool {
     let days = year.len();
     let used = usize::from(r.lines);
-    free.len() == POINTS * ROW
-        && ledger.len() == LINES * LINE
+    free.len() == TABLE
+        && ledger.len() == LEDGER
         && used <= LINES
         && r.points.iter().all(point_in_order)
         && r.accounts.iter().all(account_in_order)
@@ -21,7 +31,7 @@ pub fn in_order(r: &Register, free: &[u32], ledger: &[u32]) -> bool {
         && ledger
             .chunks_exact(LINE)
             .take(used)
-            .all(|line| line_in_order(r, &year, line))
+            .all(|line| line_in_order(r, year, line))
 }
 
 fn point_in_order(p: &Point) -> bool {
@@ -59,5 +69,5 @@ fn line_in_order(r: &Register, year: &ThermalYear, line: &[u32]) -> bool {
             .get(user as usize)
             .is_some_and(|a| a.on_file == 1)
         && r.points.get(point as usize).is_some_and(|p| p.kind > 0)
-        && (1..=MOST_AMOUNT).contains(&(amount as i32).unsigned_abs())
+        && (1..=MOST_AMOUNT).contains(&amount.cast_signed().unsigned_abs())
 }

@@ -1,15 +1,18 @@
-//! Question 1 in Rust with its loops tuned: the amounts of a row are compared with no early exit, so that the loop is vectorised,
-//! and the months' firsts are marked in a table.
+//! Question 1 in Rust with its loops tuned: the amounts of a row are compared
+//! with no early exit, so that the loop is vectorised, and the months' firsts are
+//! marked in a table.
 
-use crate::register::*;
-use crate::thermal_year::ThermalYear;
+use ylgrandi::sys::{Account, Point, Register, LEDGER, LINE, LINES, ROW, TABLE};
+
+use crate::idiomatic::ThermalYear;
+use crate::limits::*;
 
 pub fn in_order(r: &Register, free: &[u32], ledger: &[u32]) -> bool {
     let Some(year) = ThermalYear::new(r.year) else {
         return false;
     };
     let used = usize::from(r.lines);
-    if free.len() != POINTS * ROW || ledger.len() != LINES * LINE || used > LINES {
+    if free.len() != TABLE || ledger.len() != LEDGER || used > LINES {
         return false;
     }
     if !(all(&r.points, point_in_order) & all(&r.accounts, account_in_order)) {
@@ -68,5 +71,5 @@ fn line_in_order(r: &Register, begin: u32, marks: &[bool], line: &[u32]) -> bool
         & (point.kind > 0)
         & (kind.wrapping_sub(1) < 3)
         & ((kind != MONTH) | opens)
-        & ((amount as i32).unsigned_abs().wrapping_sub(1) < MOST_AMOUNT)
+        & (amount.cast_signed().unsigned_abs().wrapping_sub(1) < MOST_AMOUNT)
 }

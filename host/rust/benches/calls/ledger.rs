@@ -1,8 +1,10 @@
 //! Ledger lines as values, and lines drawn at random.
 
+use ylgrandi::sys::{LEDGER, LINE, POINTS, USERS};
+
+use crate::idiomatic::ThermalYear;
+use crate::limits::{ANNUAL, DAY, MONTH, MOST_AMOUNT};
 use crate::numbers::Numbers;
-use crate::register::{ANNUAL, DAY, LINE, LINES, MONTH, MOST_AMOUNT, POINTS, USERS};
-use crate::thermal_year::ThermalYear;
 
 #[derive(Clone, Copy)]
 pub struct Line {
@@ -14,13 +16,20 @@ pub struct Line {
 }
 
 impl Line {
-    /// The last day is implied: annual lines end with the year, month lines with the month, day lines on that day.
+    /// The last day is implied: annual lines end with the year, month lines with
+    /// the month, day lines on that day.
     pub fn last(&self, year: &ThermalYear) -> u32 {
         match self.kind {
             ANNUAL => *year.days.end(),
             MONTH => year.month_last(self.first),
             _ => self.first,
         }
+    }
+
+    /// The five numbers that hold the line.
+    pub fn numbers(&self) -> [u32; LINE] {
+        let amount = self.amount.cast_unsigned();
+        [self.user, self.point, self.kind, self.first, amount]
     }
 
     /// A line that question 1 lets pass, of any user at any point.
@@ -44,7 +53,7 @@ impl Line {
             _ => numbers.one_of(&year.month_firsts),
         };
         let size = 1 + numbers.below(MOST_AMOUNT) as i32;
-        let amount = if numbers.below(8) == 0 { -size } else { size };
+        let amount = if numbers.once_in(8) { -size } else { size };
         Line {
             user: numbers.one_of(users),
             point: numbers.one_of(points),
@@ -57,11 +66,8 @@ impl Line {
 
 /// The ledger with these lines, as it is lent.
 pub fn ledger_of(lines: &[Line]) -> Vec<u32> {
-    let mut ledger = Vec::with_capacity(LINES * LINE);
-    for l in lines {
-        ledger.extend([l.user, l.point, l.kind, l.first, l.amount as u32]);
-    }
-    ledger.resize(LINES * LINE, 0);
+    let mut ledger: Vec<u32> = lines.iter().flat_map(Line::numbers).collect();
+    ledger.resize(LEDGER, 0);
     ledger
 }
 
@@ -75,6 +81,6 @@ pub fn used_lines(ledger: &[u32], lines: u16) -> impl Iterator<Item = Line> + '_
             point,
             kind,
             first,
-            amount: amount as i32,
+            amount: amount.cast_signed(),
         })
 }

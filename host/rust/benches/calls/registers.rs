@@ -1,21 +1,23 @@
-//! Registers in order, and copies of them with one rule broken.
+//! Registers in order, and changes that break a rule.
 
+use ylgrandi::sys::{Account, Point, Register, BATCH_LINES, LINE, POINTS, ROW, USERS};
+
+use crate::idiomatic::ThermalYear;
 use crate::ledger::{ledger_of, Line};
+use crate::limits::*;
 use crate::numbers::Numbers;
-use crate::register::*;
-use crate::thermal_year::ThermalYear;
+use crate::versions::PlainBooks;
 
-#[derive(Clone)]
-pub struct Input {
-    pub register: Register,
-    pub free: Vec<u32>,
-    pub ledger: Vec<u32>,
+/// The thermal year of a register that is in order.
+pub fn calendar(year: u16) -> ThermalYear {
+    ThermalYear::new(year).expect("a year within limits")
 }
 
-/// A register in order with every point open, every user on file and so many lines, each of one of the kinds.
-pub fn full(year: u16, lines: u16, kinds: &[u32]) -> Input {
+/// A register in order with every point open, every user on file and so many
+/// lines, each of one of the kinds.
+pub fn full(year: u16, lines: u16, kinds: &[u32]) -> PlainBooks {
     let mut numbers = Numbers::new();
-    let calendar = ThermalYear::new(year).expect("a year within limits");
+    let calendar = calendar(year);
     let points = std::array::from_fn(|_| open_point(&mut numbers));
     let accounts = std::array::from_fn(|_| account_on_file(&mut numbers));
     let free = points
@@ -25,15 +27,23 @@ pub fn full(year: u16, lines: u16, kinds: &[u32]) -> Input {
     let drawn: Vec<Line> = (0..lines)
         .map(|_| Line::drawn_of_any(&mut numbers, &calendar, kinds))
         .collect();
-    Input {
-        register: Register {
-            year,
-            points,
-            accounts,
-            lines,
-        },
+    let register = Register {
+        year,
+        points,
+        accounts,
+        lines,
+    };
+    books(register, free, &drawn)
+}
+
+/// Books with lists as long as those of the largest batch.
+pub fn books(register: Register, free: Vec<u32>, lines: &[Line]) -> PlainBooks {
+    PlainBooks {
+        register,
         free,
-        ledger: ledger_of(&drawn),
+        ledger: ledger_of(lines),
+        shares: vec![0; BATCH_LINES],
+        numbers: vec![0; BATCH_LINES],
     }
 }
 
@@ -66,19 +76,20 @@ fn free_row(numbers: &mut Numbers, point: &Point, days: usize) -> [u32; ROW] {
     })
 }
 
-impl Input {
+impl PlainBooks {
     fn line(&mut self, i: usize) -> &mut [u32] {
         &mut self.ledger[LINE * i..LINE * (i + 1)]
     }
 
-    fn close(&mut self, point: usize) {
+    pub fn close(&mut self, point: usize) {
         self.register.points[point] = Point::default();
         self.free[ROW * point..ROW * (point + 1)].fill(0);
     }
 
-    /// One number of the register or of a lent list becomes another, which may or may not break a rule.
+    /// One number of the register or of a lent list becomes another, which may or
+    /// may not break a rule.
     pub fn alter(&mut self, numbers: &mut Numbers) {
-        let by = [1, 1, 2, 100, 10_000, 10_000_000, 1 << 31][numbers.below(7) as usize];
+        let by = numbers.one_of(&[1, 1, 2, 100, 10_000, 10_000_000, 1 << 31]);
         let i = numbers.below(11_712) as usize;
         let r = &mut self.register;
         match numbers.below(10) {
@@ -100,9 +111,10 @@ impl Input {
 }
 
 /// A name and a change.
-type Damage = (&'static str, fn(&mut Input));
+type Damage = (&'static str, fn(&mut PlainBooks));
 
-/// Changes that break one rule each of a register of the year 2023 with more than 1,000 lines.
+/// Changes that break one rule each of a register of the year 2023 with more than
+/// 1,000 lines.
 pub const DAMAGES: &[Damage] = &[
     ("free table too short", |s| s.free.truncate(11_711)),
     ("free table too long", |s| s.free.push(0)),
@@ -173,6 +185,6 @@ pub const DAMAGES: &[Damage] = &[
     ("amount 0", |s| s.line(1000)[4] = 0),
     ("amount 10,000,000", |s| s.line(1000)[4] = 10_000_000),
     ("amount -10,000,000", |s| {
-        s.line(1999)[4] = -10_000_000_i32 as u32
+        s.line(1999)[4] = (-10_000_000_i32).cast_unsigned()
     }),
 ];

@@ -1,4 +1,6 @@
-/// A small generator of numbers, the same in every run.
+//! Random numbers that are the same in every run.
+
+/// A small generator of numbers.
 pub struct Numbers(u64);
 
 impl Numbers {
@@ -16,5 +18,10 @@ impl Numbers {
 
     pub fn one_of<T: Copy>(&mut self, list: &[T]) -> T {
         list[self.below(list.len() as u32) as usize]
+    }
+
+    /// True about once in `n` times.
+    pub fn once_in(&mut self, n: u32) -> bool {
+        self.below(n) == 0
     }
 }

@@ -1,8 +1,10 @@
-//! Question 10 in Rust with the user's lines at the point gathered first, so that the days go around these lines only.
+//! Question 10, with the user's lines at the point gathered first, so that the
+//! days go around these lines only.
 
+use ylgrandi::sys::Holding;
+
+use super::ThermalYear;
 use crate::ledger::used_lines;
-use crate::register::Holding;
-use crate::thermal_year::ThermalYear;
 
 /// What a line adds, on each day from first to last.
 struct Cover {
@@ -11,13 +13,13 @@ struct Cover {
     amount: i32,
 }
 
-pub fn first_short_day(year: u16, lines: u16, ledger: &[u32], h: Holding) -> Option<u16> {
-    let year = ThermalYear::new(year).expect("question 1 lets no other year pass");
+/// The first gas-day of the span on which the user holds less than the amount.
+pub fn first_short_day(year: &ThermalYear, lines: u16, ledger: &[u32], h: Holding) -> Option<u16> {
     let covers: Vec<Cover> = used_lines(ledger, lines)
         .filter(|line| line.user == u32::from(h.user) && line.point == u32::from(h.point))
         .map(|line| Cover {
             first: line.first,
-            last: line.last(&year),
+            last: line.last(year),
             amount: line.amount,
         })
         .collect();

@@ -1,10 +1,14 @@
 //! Ledgers in order with an amount that a giver is to hold.
 
-use crate::ledger::{ledger_of, used_lines, Line};
-use crate::numbers::Numbers;
-use crate::register::*;
-use crate::thermal_year::ThermalYear;
+use ylgrandi::sys::{Holding, LINES, POINTS, USERS};
 
+use crate::idiomatic::ThermalYear;
+use crate::ledger::{ledger_of, used_lines, Line};
+use crate::limits::*;
+use crate::numbers::Numbers;
+use crate::registers::calendar;
+
+#[derive(Clone)]
 pub struct Input {
     pub year: u16,
     pub lines: u16,
@@ -30,26 +34,33 @@ impl Input {
         }
     }
 
-    /// The span from the first of a month, October being 0, to the year's end: that of a cession that arrives in the month before.
+    pub fn calendar(&self) -> ThermalYear {
+        calendar(self.year)
+    }
+
+    /// The span from the first of a month, October being 0, to the year's end:
+    /// that of a cession that arrives in the month before.
     pub fn span_from(&mut self, month: usize) {
-        self.holding.first = calendar(self.year).month_firsts[month] as u16;
+        self.holding.first = self.calendar().month_firsts[month] as u16;
     }
 
     pub fn ask(&mut self, amount: i64) {
         self.holding.amount = amount.clamp(0, u32::MAX.into()) as u32;
     }
 
-    /// Amounts at which the answer turns: the least that is held on a day of the span, one more, and one more than on the first day.
+    /// Amounts at which the answer turns: the least that is held on a day of the
+    /// span, one more, and one more than on the first day.
     pub fn turning_amounts(&self) -> [i64; 3] {
         let held = self.held();
         let least = *held.iter().min().expect("a span has a day");
         [least, least + 1, held[0] + 1]
     }
 
-    /// What the giver holds on each day of the span. Lines go around days here, so that no version is asked about itself.
+    /// What the giver holds on each day of the span. Lines go around days here,
+    /// so that no version is asked about itself.
     fn held(&self) -> Vec<i64> {
         let h = self.holding;
-        let year = calendar(self.year);
+        let year = self.calendar();
         let mut held = vec![0; usize::from(h.last - h.first) + 1];
         for line in used_lines(&self.ledger, self.lines) {
             if (line.user, line.point) == (h.user.into(), h.point.into()) {
@@ -62,9 +73,10 @@ impl Input {
         held
     }
 
-    /// The same with one number of a line altered. The line stays in order, but for an amount, which may leave its limits.
+    /// The same with one number of a line altered. The line stays in order, but
+    /// for an amount, which may leave its limits.
     pub fn altered(&self, numbers: &mut Numbers) -> Input {
-        let year = calendar(self.year);
+        let year = self.calendar();
         let mut lines: Vec<Line> = used_lines(&self.ledger, self.lines).collect();
         let i = numbers.below(self.lines.into()) as usize;
         let line = &mut lines[i];
@@ -87,24 +99,21 @@ impl Input {
     }
 }
 
-fn calendar(year: u16) -> ThermalYear {
-    ThermalYear::new(year).expect("a year within limits")
-}
-
-/// A ledger of two users at two points, so that about a quarter of the lines are the giver's at the point. To have something to give
-/// he has an annual line of the most from 1 October.
+/// A ledger of two users at two points, so that about a quarter of the lines are
+/// the giver's at the point. To have something to give he has an annual line of
+/// the most from 1 October.
 pub fn drawn(numbers: &mut Numbers, year: u16, user: u8, point: u8) -> Input {
     let calendar = calendar(year);
     let october = *calendar.days.start();
     let users = [user.into(), numbers.below(USERS as u32)];
     let points = [point.into(), numbers.below(POINTS as u32)];
-    // Few lines, for the sake of many registers; some registers have up to all lines.
-    let most = if numbers.below(64) == 0 { LINES } else { 40 };
+    // Few lines, for the sake of many registers; some have up to all lines.
+    let most = if numbers.once_in(64) { LINES } else { 40 };
     let others = numbers.below(most as u32 - 1);
     let mut lines = vec![line(user, point, ANNUAL, october, MOST_AMOUNT as i32)];
     lines.extend((0..others).map(|_| Line::drawn(numbers, &calendar, &KINDS, &users, &points)));
     // Least on the last day is too rare to leave it to chance.
-    if numbers.below(2) == 0 {
+    if numbers.once_in(2) {
         let less = -1 - numbers.below(MOST_AMOUNT) as i32;
         lines.push(line(user, point, DAY, *calendar.days.end(), less));
     }
@@ -130,56 +139,62 @@ const NOVEMBER: usize = 1;
 /// A name, an input to be timed and its answer.
 pub type Timed = (&'static str, Input, Option<u16>);
 
-pub fn timed() -> [Timed; 5] {
+pub fn timed() -> [Timed; 6] {
     let first = *calendar(YEAR).days.start() as u16;
     [
         (
-            "2,000 mixed lines, one the giver's; held for 335 days",
-            typical(),
+            "one line the giver's; held for 335 days",
+            one_line(1000),
             None,
         ),
         (
-            "2,048 annual lines, all the giver's; held for 366 days",
+            "one line the giver's; held for 335 days",
+            one_line(2000),
+            None,
+        ),
+        (
+            "annual lines, all the giver's; held for 366 days",
             of_the_giver(ANNUAL, 1_000_000),
             None,
         ),
         (
-            "2,048 month lines, all the giver's; held for 366 days",
+            "month lines, all the giver's; held for 366 days",
             of_the_giver(MONTH, 10_000),
             None,
         ),
         (
-            "2,048 annual lines, all the giver's; short on the first day",
+            "annual lines, all the giver's; short on the first",
             of_the_giver(ANNUAL, 3_000_000),
             Some(first),
         ),
         (
-            "2,048 month lines, all the giver's; short on the first day",
+            "month lines, all the giver's; short on the first",
             of_the_giver(MONTH, 3_000_000),
             Some(first),
         ),
     ]
 }
 
-/// Lines spread over all users and points, of which one annual line is the giver's at the point.
-fn typical() -> Input {
+/// Lines spread over all users and points, of which one annual line is the
+/// giver's at the point.
+fn one_line(lines: usize) -> Input {
     let mut numbers = Numbers::new();
     let calendar = calendar(YEAR);
-    let mut lines: Vec<Line> =
+    let mut drawn: Vec<Line> =
         std::iter::repeat_with(|| Line::drawn_of_any(&mut numbers, &calendar, &KINDS))
             .filter(|l| (l.user, l.point) != (GIVER.into(), POINT.into()))
-            .take(1999)
+            .take(lines - 1)
             .collect();
     let his = line(GIVER, POINT, ANNUAL, *calendar.days.start(), 1_000_000);
-    lines.insert(1000, his);
-    let mut input = Input::new(YEAR, GIVER, POINT, &lines);
+    drawn.insert(lines / 2, his);
+    let mut input = Input::new(YEAR, GIVER, POINT, &drawn);
     input.span_from(NOVEMBER);
     input.ask(1_000_000);
     input
 }
 
-/// As many lines of a kind as a ledger has, all the giver's at the point and of 1,000 each: annual lines from 1 October, month lines of
-/// each month in turn.
+/// As many lines of a kind as a ledger has, all the giver's at the point and of
+/// 1,000 each: annual lines from 1 October, month lines of each month in turn.
 fn of_the_giver(kind: u32, amount: i64) -> Input {
     let firsts = calendar(YEAR).month_firsts;
     let lines: Vec<Line> = (0..LINES)
