@@ -4,8 +4,12 @@
 //! How they are computed is chosen to differ from that paper's own formulas where
 //! it gives any, so that agreement between two implementations means something.
 
+use std::array;
 use std::fmt;
 use std::ops::RangeInclusive;
+
+/// Gas-days, from the first to the last.
+pub type Span = RangeInclusive<u32>;
 
 /// The years of the calendar. Document 01: it begins with 1 January 2000 and
 /// ends with 31 December 2099.
@@ -22,21 +26,6 @@ const DAYS_BEFORE_DAY_0: u32 = 730_425;
 
 /// Days in an era, the 400 years after which the Gregorian calendar repeats.
 const DAYS_PER_ERA: u32 = 146_097;
-
-/// Holidays on a fixed date, as month and day. Document 01: 1 and 6 January,
-/// 25 April, 1 May, 2 June, 15 August, 1 November, 8, 25 and 26 December.
-const FIXED_HOLIDAYS: [(u8, u8); 10] = [
-    (1, 1),
-    (1, 6),
-    (4, 25),
-    (5, 1),
-    (6, 2),
-    (8, 15),
-    (11, 1),
-    (12, 8),
-    (12, 25),
-    (12, 26),
-];
 
 /// A day of the week.
 #[derive(Debug, Clone, Copy, PartialEq, Eq)]
@@ -195,81 +184,133 @@ pub fn easter(year: u16) -> Option<Date> {
     Date::from_wide(y, n / 31, n % 31 + 1)
 }
 
-/// Whether a date is the day after Easter Sunday.
-fn is_easter_monday(date: Date) -> bool {
-    easter(date.year).is_some_and(|sunday| sunday.day_number() + 1 == date.day_number())
+/// Easter Monday, the day after Easter Sunday.
+fn easter_monday(year: u16) -> Option<Date> {
+    Date::from_day_number(easter(year)?.day_number() + 1)
 }
 
-/// Whether a date is a holiday. Document 01: the fixed dates and Easter Monday.
-fn is_holiday(date: Date) -> bool {
-    FIXED_HOLIDAYS.contains(&(date.month, date.day)) || is_easter_monday(date)
+/// Whether a date is a holiday on a fixed date. Document 01: 1 and 6 January,
+/// 25 April, 1 May, 2 June, 15 August, 1 November, 8, 25 and 26 December.
+fn is_fixed_holiday(date: Date) -> bool {
+    matches!(
+        (date.month, date.day),
+        (1, 1 | 6) | (4, 25) | (5, 1) | (6, 2) | (8, 15) | (11, 1) | (12, 8 | 25 | 26)
+    )
 }
 
 /// Whether a date is a working day. Document 01: Monday to Friday and no
 /// holiday.
 pub fn is_working_day(date: Date) -> bool {
-    let weekend = matches!(date.weekday(), Weekday::Saturday | Weekday::Sunday);
-    !weekend && !is_holiday(date)
+    let is_weekend = matches!(date.weekday(), Weekday::Saturday | Weekday::Sunday);
+    !is_weekend && !is_fixed_holiday(date) && easter_monday(date.year) != Some(date)
 }
 
 /// The working days of a month of the calendar year, in order; `None` if the
-/// month does not exist or lies outside the calendar.
-pub fn working_days(year: u16, month: u8) -> Option<Vec<Date>> {
-    if !YEARS.contains(&year) {
-        return None;
-    }
-    let days = 1..=days_in_month(year, month)?;
-    let dates = days.filter_map(|day| Date::new(year, month, day));
-    Some(dates.filter(|&date| is_working_day(date)).collect())
+/// month does not exist or lies outside the calendar. The weekday of the first
+/// and Easter are found once, and the days counted on from there.
+pub fn working_days(year: u16, month: u8) -> Option<impl Iterator<Item = Date>> {
+    let first = Date::new(year, month, 1)?;
+    let from_monday = first.weekday() as u8;
+    let holiday = easter_monday(year)?;
+    let days = (0..days_in_month(year, month)?).filter(move |day| (from_monday + day) % 7 < 5);
+    let dates = days.map(move |day| Date {
+        year,
+        month,
+        day: day + 1,
+    });
+    Some(dates.filter(move |&date| !is_fixed_holiday(date) && date != holiday))
 }
 
 /// The `n`-th working day of a month, counted from 1; `None` if there is no such
 /// day or month.
 pub fn nth_working_day(year: u16, month: u8, n: usize) -> Option<Date> {
-    let index = n.checked_sub(1)?;
-    working_days(year, month)?.get(index).copied()
+    working_days(year, month)?.nth(n.checked_sub(1)?)
 }
 
-/// The numbers of the first and the last day of a thermal year; `None` outside
-/// [`THERMAL_YEARS`]. Document 01: thermal year Y runs from 1 October Y to
-/// 30 September Y+1.
-pub fn thermal_year(year: u16) -> Option<(u32, u32)> {
-    if !THERMAL_YEARS.contains(&year) {
-        return None;
+/// The September before a thermal year and its twelve months.
+const MONTHS: usize = 13;
+
+/// A thermal year. Document 01: thermal year Y runs from 1 October Y to 30
+/// September Y+1; month 1 of it is October, month 12 September. What arrives
+/// before the year does so in the September before it, which is month 0 here.
+#[derive(Debug, Clone, Copy, PartialEq, Eq)]
+pub struct ThermalYear {
+    year: u16,
+    /// The first gas-day of each month, and of the one after the last.
+    firsts: [u32; MONTHS + 1],
+}
+
+impl ThermalYear {
+    /// The thermal year that begins in October of a year; `None` outside
+    /// [`THERMAL_YEARS`]. Its months are found by a walk from September on.
+    pub fn new(year: u16) -> Option<ThermalYear> {
+        if !THERMAL_YEARS.contains(&year) {
+            return None;
+        }
+        let mut next = Date::new(year, 9, 1)?.day_number();
+        let firsts = array::from_fn(|month| {
+            let first = next;
+            let (year, month) = calendar_month(year, month);
+            next += u32::from(days_in_month(year, month).unwrap_or(0));
+            first
+        });
+        Some(ThermalYear { year, firsts })
     }
-    let first = Date::new(year, 10, 1)?;
-    let last = Date::new(year + 1, 9, 30)?;
-    Some((first.day_number(), last.day_number()))
-}
 
-/// The numbers of the first and the last day of a month of a thermal year;
-/// `None` if there is no such month or thermal year. Document 01: month 1 is
-/// October, month 12 September.
-pub fn thermal_month(year: u16, month: u8) -> Option<(u32, u32)> {
-    if !(1..=12).contains(&month) {
-        return None;
+    /// 1 October to 30 September.
+    pub fn days(&self) -> Span {
+        self.firsts[1]..=self.firsts[MONTHS] - 1
     }
-    let (first_of_year, _) = thermal_year(year)?;
-    let mut first = Date::from_day_number(first_of_year)?;
-    for _ in 1..month {
-        first = first.first_of_next_month()?;
+
+    /// How many days it has, 365 or 366.
+    pub fn day_count(&self) -> usize {
+        (self.firsts[MONTHS] - self.firsts[1]) as usize
     }
-    let next = first.first_of_next_month()?;
-    Some((first.day_number(), next.day_number() - 1))
+
+    /// The days of a month, 1 to 12.
+    pub fn month(&self, month: u8) -> Option<Span> {
+        let place = usize::from(month);
+        let is_month = (1..MONTHS).contains(&place);
+        is_month.then(|| self.firsts[place]..=self.firsts[place + 1] - 1)
+    }
+
+    /// The first days of its months, October's first.
+    pub fn month_firsts(&self) -> &[u32] {
+        &self.firsts[1..MONTHS]
+    }
+
+    /// The days on which a call may arrive. Document 01, question 8: from 1
+    /// September Y to 30 September Y+1.
+    pub fn arrivals(&self) -> Span {
+        self.firsts[0]..=self.firsts[MONTHS] - 1
+    }
+
+    /// The month in which a call arrives, if it may.
+    pub fn arrival_month(&self, day: u32) -> Option<u8> {
+        let begun = self.firsts.partition_point(|&first| first <= day);
+        (1..=MONTHS).contains(&begun).then(|| begun as u8 - 1)
+    }
+
+    /// From the first of the month after arrival to the year's end; `None` where
+    /// nothing may arrive or no day is left.
+    pub fn rest_after(&self, arrival: u32) -> Option<Span> {
+        let next = self.arrival_month(arrival)? + 1;
+        Some(*self.month(next)?.start()..=*self.days().end())
+    }
+
+    /// The `n`-th working day of a month, 0 to 12. Document 01, question 9: the
+    /// deadlines are such days, and the day itself is in time.
+    pub fn working_day(&self, month: u8, n: usize) -> Option<u32> {
+        if usize::from(month) >= MONTHS {
+            return None;
+        }
+        let (year, month) = calendar_month(self.year, month.into());
+        nth_working_day(year, month, n).map(Date::day_number)
+    }
 }
 
-/// The `n`-th working day of the month of a date. Document 01, question 9: an
-/// annual request is in time up to the 11th, a cession up to the 16th, that day
-/// included.
-pub fn own_deadline(arrival: Date, n: usize) -> Option<Date> {
-    nth_working_day(arrival.year, arrival.month, n)
-}
-
-/// The `n`-th working day of the month before a month of a thermal year.
-/// Document 01, question 9: a monthly request is in time up to the 11th, that
-/// day included.
-pub fn preceding_deadline(year: u16, month: u8, n: usize) -> Option<Date> {
-    let (first, _) = thermal_month(year, month)?;
-    let day_before = Date::from_day_number(first.checked_sub(1)?)?;
-    own_deadline(day_before, n)
+/// Year and month of the calendar of a month of a thermal year.
+fn calendar_month(year: u16, month: usize) -> (u16, u8) {
+    const OF_YEAR: [u8; MONTHS + 1] = [9, 10, 11, 12, 1, 2, 3, 4, 5, 6, 7, 8, 9, 10];
+    (year + u16::from(month > 3), OF_YEAR[month])
 }

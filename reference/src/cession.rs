@@ -6,14 +6,13 @@
 //! paper leaves open:
 //!
 //! - an arrival outside the calendar is refused by question 8;
-//! - the two lines of a cession are written after the last one used;
-//! - nobody holds anything on a day outside the year.
+//! - the two lines of a cession are written after the last one used.
 
-use crate::calendar::{own_deadline, thermal_year, Date};
+use crate::calendar::{Span, ThermalYear};
 use crate::register::{
-    ensure, Lent, Line, LineKind, Refusal, Register, AMOUNTS, LEDGER_LINES, NUMBERS_IN_LINE,
+    amount_within_limits, day_count, ensure, used_lines, Lent, Line, Refusal, Register, ANNUAL,
+    MONTH,
 };
-use crate::request::{first_of_month_after, is_arrival, Span};
 
 /// The working day of its own month by which a cession arrives. Document 01,
 /// question 9: the 16th.
@@ -21,7 +20,7 @@ pub const CESSION_DEADLINE: usize = 16;
 
 /// The lines that a cession writes: minus for the giver, then plus for the
 /// receiver.
-const LINES_OF_CESSION: u16 = 2;
+const LINES_OF_CESSION: usize = 2;
 
 /// A cession, its arrival being a gas-day.
 #[derive(Debug, Clone, Copy, PartialEq, Eq)]
@@ -31,44 +30,6 @@ pub struct Cession {
     pub point: u8,
     pub arrival: u16,
     pub amount: u64,
-}
-
-impl Cession {
-    /// The amount, if it is within limits and the giver is not the receiver.
-    fn ceded(&self) -> Option<u32> {
-        let amount = u32::try_from(self.amount).ok()?;
-        (self.giver != self.receiver && AMOUNTS.contains(&amount)).then_some(amount)
-    }
-
-    /// The gas-days that are ceded in a thermal year: from the first of the month
-    /// after arrival to the year's end. `None` if question 8 is answered no.
-    pub fn span(&self, year: u16) -> Option<Span> {
-        let arrival = u32::from(self.arrival);
-        let (_, last) = thermal_year(year)?;
-        let from = first_of_month_after(arrival)?;
-        (is_arrival(year, arrival) && from <= last).then_some(from..=last)
-    }
-
-    /// Question 9. The deadline itself is in time.
-    fn is_in_time(&self) -> bool {
-        let arrival = Date::from_day_number(self.arrival.into());
-        let deadline = arrival.and_then(|date| own_deadline(date, CESSION_DEADLINE));
-        arrival
-            .zip(deadline)
-            .is_some_and(|(date, last)| date <= last)
-    }
-
-    /// The lines that a cession writes, in their order.
-    fn lines(&self, span: &Span, ceded: u32) -> [Line; LINES_OF_CESSION as usize] {
-        let amount = ceded.cast_signed();
-        [(self.giver, -amount), (self.receiver, amount)].map(|(user, amount)| Line {
-            user: user.into(),
-            point: self.point.into(),
-            kind: LineKind::Annual,
-            first: *span.start(),
-            amount,
-        })
-    }
 }
 
 /// An amount that a user is to hold at a point, on each day from `first` to
@@ -83,15 +44,37 @@ pub struct Holding {
 }
 
 impl Line {
-    /// Whether the line counts on a gas-day of the year: an annual line from its
-    /// first day on, a month line in that month, a day line on that day.
-    fn counts_on(&self, day: u32) -> bool {
-        let month_of = |day| Date::from_day_number(day).map(|date| (date.year(), date.month()));
+    /// Its last day. Document 01: annual lines end with the year, month lines
+    /// with the month, day lines on that day.
+    fn last(&self, year: &ThermalYear) -> u32 {
         match self.kind {
-            LineKind::Annual => self.first <= day,
-            LineKind::Month => month_of(self.first) == month_of(day),
-            LineKind::Day => self.first == day,
+            ANNUAL => *year.days().end(),
+            MONTH => {
+                let later = year
+                    .month_firsts()
+                    .iter()
+                    .find(|&&first| first > self.first);
+                later.map_or(*year.days().end(), |next| next - 1)
+            }
+            _ => self.first,
         }
+    }
+}
+
+/// What a ledger line gives or takes, and the days on which it does.
+struct Part {
+    days: Span,
+    amount: i64,
+}
+
+/// What a user holds at a point, by his ledger lines there.
+pub struct Held(Vec<Part>);
+
+impl Held {
+    /// What a user holds at a point on a gas-day: the sum of his lines there.
+    pub fn on(&self, day: u32) -> i64 {
+        let parts = self.0.iter().filter(|part| part.days.contains(&day));
+        parts.map(|part| part.amount).sum()
     }
 }
 
@@ -100,36 +83,36 @@ impl Register {
     /// moves from the giver's commitment to the receiver's, and two lines are
     /// written. The free amounts stay as they are.
     pub fn cede(&mut self, lent: &mut Lent, cession: Cession) -> Result<u32, Refusal> {
-        let (amount, span) = self.admit_cession(lent, &cession)?;
-        let is_held = span.clone().all(|day| {
-            self.held(lent.ledger, cession.giver, cession.point, day) >= i64::from(amount)
-        });
+        let year = self.year_in_order(lent)?;
+        let amount = self.admit_cession(&cession)?;
+        let arrival = u32::from(cession.arrival);
+        let span = year.rest_after(arrival).ok_or(Refusal::OutsideYear)?;
+        let month = year.arrival_month(arrival);
+        let deadline = month.and_then(|month| year.working_day(month, CESSION_DEADLINE));
+        ensure(deadline.is_some_and(|last| arrival <= last), Refusal::Late)?;
+
+        let held = self.held(&year, lent.ledger, cession.giver, cession.point);
+        let is_held = span.clone().all(|day| held.on(day) >= amount.into());
         ensure(is_held, Refusal::NotHeld)?;
-
-        let charge = self.points[usize::from(cession.point)].charge(amount, &span);
-        let [giver, receiver] = [cession.giver, cession.receiver].map(usize::from);
-        let lowered = self.accounts[giver].commitment.checked_sub(charge);
-        let lowered = lowered.ok_or(Refusal::NotInOrder)?;
-        ensure(self.accounts[receiver].covers(charge), Refusal::NotCovered)?;
-        let lines = self.lines + LINES_OF_CESSION;
-        ensure(usize::from(lines) <= LEDGER_LINES, Refusal::LedgerFull)?;
-
-        self.accounts[giver].commitment = lowered;
-        self.accounts[receiver].commitment += charge;
-        let places = lent.ledger.chunks_exact_mut(NUMBERS_IN_LINE);
-        let written = cession.lines(&span, amount);
-        for (place, line) in places.skip(self.lines.into()).zip(written) {
-            place.copy_from_slice(&line.numbers());
+        self.move_charge(&cession, amount, &span)?;
+        let signed = amount.cast_signed();
+        for (user, amount) in [(cession.giver, -signed), (cession.receiver, signed)] {
+            let line = Line {
+                user: user.into(),
+                point: cession.point.into(),
+                kind: ANNUAL,
+                first: *span.start(),
+                amount,
+            };
+            self.write_line(lent.ledger, line);
         }
-        self.lines = lines;
         Ok(amount)
     }
 
-    /// The questions on the cession itself, 1 to 9: the amount and the gas-days
-    /// that are to be ceded, at a point and by users that there are.
-    fn admit_cession(&self, lent: &Lent, cession: &Cession) -> Result<(u32, Span), Refusal> {
-        self.ensure_in_order(lent)?;
-        let amount = cession.ceded().ok_or(Refusal::OutOfLimits)?;
+    /// Questions 2, 3 and 5: the amount that is ceded.
+    fn admit_cession(&self, cession: &Cession) -> Result<u32, Refusal> {
+        let amount = amount_within_limits(cession.amount)?;
+        ensure(cession.giver != cession.receiver, Refusal::OutOfLimits)?;
         let account = |user: u8| self.accounts.get(usize::from(user));
         let point = self.points.get(usize::from(cession.point));
         let users = account(cession.giver).zip(account(cession.receiver));
@@ -137,32 +120,39 @@ impl Register {
         ensure(point.is_open(), Refusal::PointClosed)?;
         let are_on_file = giver.is_on_file() && receiver.is_on_file();
         ensure(are_on_file, Refusal::NotOnFile)?;
-        let span = cession.span(self.year).ok_or(Refusal::OutsideYear)?;
-        ensure(cession.is_in_time(), Refusal::Late)?;
-        Ok((amount, span))
+        Ok(amount)
     }
 
-    /// What a user holds at a point on a gas-day of the year: the sum of his
-    /// ledger lines there.
-    pub fn held(&self, ledger: &[u32], user: u8, point: u8, day: u32) -> i64 {
-        ledger
-            .chunks_exact(NUMBERS_IN_LINE)
-            .take(self.lines.into())
-            .filter_map(Line::read)
-            .filter(|line| line.user == u32::from(user) && line.point == u32::from(point))
-            .filter(|line| line.counts_on(day))
-            .map(|line| i64::from(line.amount))
-            .sum()
+    /// Questions 1 again, 11 and 13; where all are answered yes the charge moves.
+    fn move_charge(&mut self, cession: &Cession, amount: u32, span: &Span) -> Result<(), Refusal> {
+        let charge = self.points[usize::from(cession.point)].charge(amount, day_count(span));
+        let [giver, receiver] = [cession.giver, cession.receiver].map(usize::from);
+        let lowered = self.accounts[giver].commitment.checked_sub(charge);
+        let lowered = lowered.ok_or(Refusal::NotInOrder)?;
+        ensure(self.accounts[receiver].covers(charge), Refusal::NotCovered)?;
+        ensure(self.has_lines_left(LINES_OF_CESSION), Refusal::LedgerFull)?;
+        self.accounts[giver].commitment = lowered;
+        self.accounts[receiver].commitment += charge;
+        Ok(())
+    }
+
+    /// What a user holds at a point. His lines there are picked out first, so
+    /// that a day is looked up in these only.
+    pub fn held(&self, year: &ThermalYear, ledger: &[u32], user: u8, point: u8) -> Held {
+        let lines = used_lines(ledger, self.lines)
+            .filter(|line| line.user == u32::from(user) && line.point == u32::from(point));
+        let part = |line: Line| Part {
+            days: line.first..=line.last(year),
+            amount: line.amount.into(),
+        };
+        Held(lines.map(part).collect())
     }
 
     /// The first day of a span on which a user holds less than an amount. The
     /// register is in order.
     pub fn first_short_day(&self, ledger: &[u32], holding: Holding) -> Option<u16> {
-        let (from, to) = thermal_year(self.year)?;
-        let held_on = |day| match (from..=to).contains(&day) {
-            true => self.held(ledger, holding.user, holding.point, day),
-            false => 0,
-        };
-        (holding.first..=holding.last).find(|&day| held_on(day.into()) < holding.amount.into())
+        let year = ThermalYear::new(self.year)?;
+        let held = self.held(&year, ledger, holding.user, holding.point);
+        (holding.first..=holding.last).find(|&day| held.on(day.into()) < holding.amount.into())
     }
 }

@@ -1,7 +1,6 @@
-//! The register, question 1, and the calls that grant no capacity: the fresh
-//! register, open point, place guarantee, turn the year and the report. The
-//! request is in [`crate::request`], the batch in [`crate::batch`], the cession
-//! in [`crate::cession`].
+//! The register, and the calls that confer no capacity: the fresh register, open
+//! point, place guarantee, turn the year and the report. Question 1 is in
+//! [`crate::order`], the other calls have a module each.
 //!
 //! The rules are those of document 01, sections "The register", "The changing
 //! calls", "Questions put to a call" and "Report and runner". What that paper
@@ -15,10 +14,9 @@
 //!   a fresh register "out of limits";
 //! - a refused fresh register is a blank one of year 0.
 
-use std::collections::BTreeSet;
 use std::ops::RangeInclusive;
 
-use crate::calendar::{thermal_year, Date};
+use crate::calendar::{Span, ThermalYear};
 
 /// How many points a register has.
 pub const POINTS: usize = 32;
@@ -65,26 +63,14 @@ pub struct Point {
 }
 
 impl Point {
-    const CLOSED: Point = Point {
-        kind: 0,
-        total: 0,
-        rate: 0,
-    };
-
     pub fn is_open(&self) -> bool {
         self.kind != 0
     }
 
-    /// The point with these fields, if they are within limits.
-    fn within_limits(kind: u8, total: u64, rate: u32) -> Option<Point> {
-        let total = u32::try_from(total).ok()?;
-        let fits = KINDS.contains(&kind) && AMOUNTS.contains(&total) && RATES.contains(&rate);
-        fits.then_some(Point { kind, total, rate })
-    }
-
-    fn is_in_order(&self) -> bool {
-        *self == Point::CLOSED
-            || Point::within_limits(self.kind, u64::from(self.total), self.rate).is_some()
+    /// The charge of an amount for so many days. It is below 2^52: an amount has
+    /// at most seven digits, a rate six, a span 366 days.
+    pub fn charge(&self, amount: u32, days: usize) -> u64 {
+        u64::from(amount) * days as u64 * u64::from(self.rate)
     }
 }
 
@@ -101,79 +87,51 @@ impl Account {
         self.on_file == 1
     }
 
-    fn is_in_order(&self) -> bool {
-        match self.on_file {
-            0 => self.guarantee == 0 && self.commitment == 0,
-            1 => GUARANTEES.contains(&self.guarantee) && self.guarantee >= self.commitment,
-            _ => false,
-        }
+    /// Question 11.
+    pub(crate) fn covers(&self, charge: u64) -> bool {
+        self.commitment + charge <= self.guarantee
     }
 }
 
-/// What a ledger line is for.
-#[derive(Debug, Clone, Copy, PartialEq, Eq)]
-pub enum LineKind {
-    Annual,
-    Month,
-    Day,
-}
-
-impl LineKind {
-    fn from_number(number: u32) -> Option<LineKind> {
-        match number {
-            1 => Some(LineKind::Annual),
-            2 => Some(LineKind::Month),
-            3 => Some(LineKind::Day),
-            _ => None,
-        }
-    }
-
-    fn number(self) -> u32 {
-        match self {
-            LineKind::Annual => 1,
-            LineKind::Month => 2,
-            LineKind::Day => 3,
-        }
-    }
-}
+/// Kinds of ledger lines.
+pub const ANNUAL: u32 = 1;
+pub const MONTH: u32 = 2;
+pub const DAY: u32 = 3;
 
 /// A ledger line as it is read and written.
 #[derive(Debug, Clone, Copy, PartialEq, Eq)]
 pub struct Line {
     pub user: u32,
     pub point: u32,
-    pub kind: LineKind,
+    pub kind: u32,
     pub first: u32,
     pub amount: i32,
 }
 
 impl Line {
-    /// The line that five numbers hold; `None` if they have no kind. The amount
-    /// is the number whose 32 bits, read as signed, the fifth one has.
-    pub(crate) fn read(numbers: &[u32]) -> Option<Line> {
-        let &[user, point, kind, first, amount] = numbers else {
-            return None;
-        };
-        Some(Line {
+    /// The line that five numbers hold. The amount is the number whose 32 bits,
+    /// read as signed, the fifth one has.
+    pub(crate) fn read(&[user, point, kind, first, amount]: &[u32; NUMBERS_IN_LINE]) -> Line {
+        Line {
             user,
             point,
-            kind: LineKind::from_number(kind)?,
+            kind,
             first,
-            amount: i32::from_le_bytes(amount.to_le_bytes()),
-        })
+            amount: amount.cast_signed(),
+        }
     }
 
     /// The five numbers that hold the line.
-    pub(crate) fn numbers(&self) -> [u32; NUMBERS_IN_LINE] {
-        let amount = u32::from_le_bytes(self.amount.to_le_bytes());
-        [
-            self.user,
-            self.point,
-            self.kind.number(),
-            self.first,
-            amount,
-        ]
+    fn numbers(&self) -> [u32; NUMBERS_IN_LINE] {
+        let amount = self.amount.cast_unsigned();
+        [self.user, self.point, self.kind, self.first, amount]
     }
+}
+
+/// The lines of a ledger that are used.
+pub(crate) fn used_lines(ledger: &[u32], lines: u16) -> impl Iterator<Item = Line> + '_ {
+    let (all, _) = ledger.as_chunks();
+    all.iter().take(lines.into()).map(Line::read)
 }
 
 /// Why a call is refused: the question of document 01 that is answered no.
@@ -203,6 +161,23 @@ impl Refusal {
     }
 }
 
+/// Refuses where a question is answered no.
+pub(crate) fn ensure(answer: bool, refusal: Refusal) -> Result<(), Refusal> {
+    if answer {
+        Ok(())
+    } else {
+        Err(refusal)
+    }
+}
+
+/// An amount or a total of a call, if it is within limits.
+pub(crate) fn amount_within_limits(amount: u64) -> Result<u32, Refusal> {
+    let narrow = u32::try_from(amount).ok();
+    narrow
+        .filter(|amount| AMOUNTS.contains(amount))
+        .ok_or(Refusal::OutOfLimits)
+}
+
 /// The two lists that a host lends to a call.
 #[derive(Debug)]
 pub struct Lent<'a> {
@@ -210,6 +185,19 @@ pub struct Lent<'a> {
     pub free: &'a mut [u32],
     /// The ledger, five numbers for each line in turn.
     pub ledger: &'a mut [u32],
+}
+
+impl Lent<'_> {
+    /// The free amounts of a point.
+    pub(crate) fn row(&mut self, point: u8) -> &mut [u32] {
+        &mut self.free[DAYS_IN_ROW * usize::from(point)..][..DAYS_IN_ROW]
+    }
+
+    /// The free amounts of a point on the days of a span of the year.
+    pub(crate) fn amounts(&mut self, year: &ThermalYear, point: u8, span: &Span) -> &mut [u32] {
+        let from = (span.start() - year.days().start()) as usize;
+        &mut self.row(point)[from..][..day_count(span)]
+    }
 }
 
 /// The register of one thermal year, but for the lists that are lent.
@@ -227,7 +215,7 @@ impl Register {
     pub fn blank(year: u16) -> Register {
         Register {
             year,
-            points: [Point::CLOSED; POINTS],
+            points: [Point::default(); POINTS],
             accounts: [Account::default(); USERS],
             lines: 0,
         }
@@ -236,74 +224,17 @@ impl Register {
     /// Makes this a fresh register of a year. If it is refused the lists are
     /// left, and the register is of year 0, which no call takes.
     pub fn renew(&mut self, lent: &mut Lent, year: u16) -> Result<(), Refusal> {
-        *self = Register::blank(0);
-        let fits = thermal_year(year).is_some()
+        let fits = ThermalYear::new(year).is_some()
             && lent.free.len() == TABLE_LENGTH
             && lent.ledger.len() == LEDGER_LENGTH;
-        ensure(fits, Refusal::OutOfLimits)?;
-        self.year = year;
+        if !fits {
+            *self = Register::blank(0);
+            return Err(Refusal::OutOfLimits);
+        }
+        *self = Register::blank(year);
         lent.free.fill(0);
         lent.ledger.fill(0);
         Ok(())
-    }
-
-    /// Question 1.
-    pub fn is_in_order(&self, lent: &Lent) -> bool {
-        let Some((first, last)) = thermal_year(self.year) else {
-            return false;
-        };
-        let year = first..=last;
-        lent.free.len() == TABLE_LENGTH
-            && lent.ledger.len() == LEDGER_LENGTH
-            && usize::from(self.lines) <= LEDGER_LINES
-            && self.points.iter().all(Point::is_in_order)
-            && self.accounts.iter().all(Account::is_in_order)
-            && self.has_free_amounts_in_order(lent.free, &year)
-            && self.has_lines_in_order(lent.ledger, &year)
-    }
-
-    /// Each free amount is at most its total; entries of closed points, whose
-    /// total is 0, and those after the year's last day are 0.
-    fn has_free_amounts_in_order(&self, free: &[u32], year: &RangeInclusive<u32>) -> bool {
-        let rows = free.chunks(DAYS_IN_ROW);
-        self.points.iter().zip(rows).all(|(point, row)| {
-            row.iter()
-                .zip(*year.start()..)
-                .all(|(&amount, day)| amount <= if year.contains(&day) { point.total } else { 0 })
-        })
-    }
-
-    /// Each used line has a user on file, an open point, a kind, a first day in
-    /// the year (a month's first for a month line) and an amount other than 0
-    /// within the limits.
-    fn has_lines_in_order(&self, ledger: &[u32], year: &RangeInclusive<u32>) -> bool {
-        let users: BTreeSet<u32> = (0..)
-            .zip(&self.accounts)
-            .filter(|(_, account)| account.is_on_file())
-            .map(|(user, _)| user)
-            .collect();
-        let points: BTreeSet<u32> = (0..)
-            .zip(&self.points)
-            .filter(|(_, point)| point.is_open())
-            .map(|(point, _)| point)
-            .collect();
-        ledger
-            .chunks(NUMBERS_IN_LINE)
-            .take(usize::from(self.lines))
-            .all(|numbers| {
-                Line::read(numbers).is_some_and(|line| {
-                    users.contains(&line.user)
-                        && points.contains(&line.point)
-                        && year.contains(&line.first)
-                        && (line.kind != LineKind::Month || is_first_of_month(line.first))
-                        && AMOUNTS.contains(&line.amount.unsigned_abs())
-                })
-            })
-    }
-
-    /// Question 1 as every call puts it.
-    pub(crate) fn ensure_in_order(&self, lent: &Lent) -> Result<(), Refusal> {
-        ensure(self.is_in_order(lent), Refusal::NotInOrder)
     }
 
     /// Opens a point: every gas-day of the year is free to the total. Questions
@@ -316,15 +247,15 @@ impl Register {
         total: u64,
         rate: u32,
     ) -> Result<(), Refusal> {
-        self.ensure_in_order(lent)?;
-        let opened = Point::within_limits(kind, total, rate).ok_or(Refusal::OutOfLimits)?;
-        let place = self
-            .points
-            .get_mut(usize::from(point))
-            .ok_or(Refusal::OutOfLimits)?;
+        let year = self.year_in_order(lent)?;
+        let place = self.points.get_mut(usize::from(point));
+        let place = place.ok_or(Refusal::OutOfLimits)?;
+        let total = amount_within_limits(total)?;
+        let fits = KINDS.contains(&kind) && RATES.contains(&rate);
+        ensure(fits, Refusal::OutOfLimits)?;
         ensure(!place.is_open(), Refusal::PointOpen)?;
-        *place = opened;
-        self.free_all_totals_of(lent, &[usize::from(point)]);
+        *place = Point { kind, total, rate };
+        free_to_total(lent.row(point), total, year.day_count());
         Ok(())
     }
 
@@ -335,70 +266,71 @@ impl Register {
         user: u8,
         guarantee: u64,
     ) -> Result<(), Refusal> {
-        self.ensure_in_order(lent)?;
+        self.year_in_order(lent)?;
+        let account = self.accounts.get_mut(usize::from(user));
+        let account = account.ok_or(Refusal::OutOfLimits)?;
         ensure(GUARANTEES.contains(&guarantee), Refusal::OutOfLimits)?;
-        let account = self
-            .accounts
-            .get_mut(usize::from(user))
-            .ok_or(Refusal::OutOfLimits)?;
         ensure(account.commitment <= guarantee, Refusal::BelowCommitment)?;
-        *account = Account {
-            on_file: 1,
-            guarantee,
-            ..*account
-        };
+        account.on_file = 1;
+        account.guarantee = guarantee;
         Ok(())
     }
 
     /// Turns the register to a later year: totals are free again, the ledger is
     /// empty, commitments are 0. Questions 1, 2 and 15.
     pub fn turn_year(&mut self, lent: &mut Lent, year: u16) -> Result<(), Refusal> {
-        self.ensure_in_order(lent)?;
-        ensure(thermal_year(year).is_some(), Refusal::OutOfLimits)?;
+        self.year_in_order(lent)?;
+        let days = ThermalYear::new(year).ok_or(Refusal::OutOfLimits)?;
         ensure(year > self.year, Refusal::YearNotLater)?;
         self.year = year;
         self.lines = 0;
         for account in &mut self.accounts {
             account.commitment = 0;
         }
+        for (point, row) in self
+            .points
+            .iter()
+            .zip(lent.free.chunks_exact_mut(DAYS_IN_ROW))
+        {
+            free_to_total(row, point.total, days.day_count());
+        }
         lent.ledger.fill(0);
-        let all: Vec<usize> = (0..POINTS).collect();
-        self.free_all_totals_of(lent, &all);
         Ok(())
     }
 
     /// The free amount of a point and gas-day. Questions 1, 2, 3 and 8.
     pub fn report(&self, lent: &Lent, point: u8, day: u16) -> Result<u32, Refusal> {
-        self.ensure_in_order(lent)?;
-        let index = usize::from(point);
-        let place = self.points.get(index).ok_or(Refusal::OutOfLimits)?;
+        let year = self.year_in_order(lent)?;
+        let place = self.points.get(usize::from(point));
+        let place = place.ok_or(Refusal::OutOfLimits)?;
         ensure(place.is_open(), Refusal::PointClosed)?;
-        let days = thermal_year(self.year).map(|(first, last)| first..=last);
-        let nth = days.and_then(|mut days| days.position(|one| one == u32::from(day)));
-        let row = lent.free.chunks(DAYS_IN_ROW).nth(index);
-        nth.and_then(|nth| row?.get(nth).copied())
-            .ok_or(Refusal::OutsideYear)
+        let day = u32::from(day);
+        ensure(year.days().contains(&day), Refusal::OutsideYear)?;
+        let nth = (day - year.days().start()) as usize;
+        Ok(lent.free[DAYS_IN_ROW * usize::from(point) + nth])
     }
 
-    /// Makes the totals of some points free on each day of the year, and nothing
-    /// after it.
-    fn free_all_totals_of(&self, lent: &mut Lent, points: &[usize]) {
-        let days = thermal_year(self.year).map_or(0, |(first, last)| (first..=last).count());
-        let rows = lent.free.chunks_mut(DAYS_IN_ROW).enumerate();
-        for (index, row) in rows.filter(|(index, _)| points.contains(index)) {
-            let (within, after) = row.split_at_mut(days);
-            within.fill(self.points[index].total);
-            after.fill(0);
-        }
+    /// Writes a line after the last one used. There is room for it.
+    pub(crate) fn write_line(&mut self, ledger: &mut [u32], line: Line) {
+        let place = NUMBERS_IN_LINE * usize::from(self.lines);
+        ledger[place..][..NUMBERS_IN_LINE].copy_from_slice(&line.numbers());
+        self.lines += 1;
+    }
+
+    /// Question 13.
+    pub(crate) fn has_lines_left(&self, wanted: usize) -> bool {
+        usize::from(self.lines) + wanted <= LEDGER_LINES
     }
 }
 
-/// Whether a gas-day is the first of a month of the calendar.
-fn is_first_of_month(day: u32) -> bool {
-    Date::from_day_number(day).is_some_and(|date| date.day() == 1)
+/// How many days a span has.
+pub(crate) fn day_count(span: &Span) -> usize {
+    (span.end() - span.start()) as usize + 1
 }
 
-/// Refuses where a question is answered no.
-pub(crate) fn ensure(answer: bool, refusal: Refusal) -> Result<(), Refusal> {
-    answer.then_some(()).ok_or(refusal)
+/// Every gas-day of the year is free to the total, and none after it.
+fn free_to_total(row: &mut [u32], total: u32, days: usize) {
+    let (within, after) = row.split_at_mut(days);
+    within.fill(total);
+    after.fill(0);
 }

@@ -10,10 +10,10 @@
 
 use std::ops::RangeInclusive;
 
-use crate::calendar::{own_deadline, preceding_deadline, thermal_month, thermal_year, Date};
+use crate::calendar::{Span, ThermalYear};
 use crate::register::{
-    ensure, Account, Lent, Line, LineKind, Point, Refusal, Register, AMOUNTS, DAYS_IN_ROW, DIRECT,
-    NUMBERS_IN_LINE,
+    amount_within_limits, day_count, ensure, Lent, Line, Point, Refusal, Register, ANNUAL, DAY,
+    DIRECT, LEDGER_LINES, MONTH,
 };
 
 /// The working day by which annual and monthly requests arrive. Document 01,
@@ -22,9 +22,6 @@ pub const REQUEST_DEADLINE: usize = 11;
 
 /// The months of a thermal year.
 const MONTHS: RangeInclusive<u8> = 1..=12;
-
-/// Gas-days, by their numbers.
-pub type Span = RangeInclusive<u32>;
 
 /// What a request is for.
 #[derive(Debug, Clone, Copy, PartialEq, Eq)]
@@ -35,16 +32,6 @@ pub enum Product {
     Month(u8),
     /// A gas-day.
     Day(u16),
-}
-
-impl Product {
-    fn line_kind(self) -> LineKind {
-        match self {
-            Product::Annual => LineKind::Annual,
-            Product::Month(_) => LineKind::Month,
-            Product::Day(_) => LineKind::Day,
-        }
-    }
 }
 
 /// A request, its arrival being a gas-day.
@@ -58,44 +45,33 @@ pub struct Request {
 }
 
 impl Request {
-    /// The asked amount, if it and a month are within limits.
-    fn asked(&self) -> Option<u32> {
-        let has_month = match self.product {
-            Product::Month(month) => MONTHS.contains(&month),
-            Product::Annual | Product::Day(_) => true,
-        };
-        let amount = u32::try_from(self.amount).ok()?;
-        (has_month && AMOUNTS.contains(&amount)).then_some(amount)
-    }
-
-    /// The gas-days that are asked for in a thermal year, as question 8 has it;
-    /// `None` if the arrival does not lie from 1 September before the year to
-    /// its end, or the span not in the year, or if no day is left.
-    pub fn span(&self, year: u16) -> Option<Span> {
-        let (first, last) = thermal_year(year)?;
+    /// The gas-days that are asked for, as question 8 has it; `None` if the
+    /// arrival or the span does not lie where it must, or if no day is left.
+    pub fn span(&self, year: &ThermalYear) -> Option<Span> {
         let arrival = u32::from(self.arrival);
-        if !is_arrival(year, arrival) {
+        if !year.arrivals().contains(&arrival) {
             return None;
         }
-        let (from, to) = match self.product {
-            Product::Annual => (first_of_month_after(arrival)?, last),
-            Product::Month(month) => thermal_month(year, month)?,
-            Product::Day(day) => (day.into(), day.into()),
-        };
-        (first <= from && from <= to && to <= last).then_some(from..=to)
+        match self.product {
+            Product::Annual => year.rest_after(arrival),
+            Product::Month(month) => year.month(month),
+            Product::Day(day) => {
+                let day = u32::from(day);
+                year.days().contains(&day).then_some(day..=day)
+            }
+        }
     }
 
-    /// Question 9. The deadline itself is in time.
-    fn is_in_time(&self, year: u16) -> bool {
-        let arrival = u32::from(self.arrival);
-        let deadline = match self.product {
-            Product::Annual => {
-                Date::from_day_number(arrival).and_then(|date| own_deadline(date, REQUEST_DEADLINE))
-            }
-            Product::Month(month) => preceding_deadline(year, month, REQUEST_DEADLINE),
-            Product::Day(day) => return self.arrival < day,
+    /// The last day on which the request is in time; `None` where there is none.
+    /// Document 01, question 9: the 11th working day of the arrival month, that
+    /// of the month before the one asked for, the day before the gas-day.
+    pub fn deadline(&self, year: &ThermalYear) -> Option<u32> {
+        let month = match self.product {
+            Product::Annual => year.arrival_month(self.arrival.into())?,
+            Product::Month(month) => month.checked_sub(1)?,
+            Product::Day(day) => return u32::from(day).checked_sub(1),
         };
-        deadline.is_some_and(|last| arrival <= last.day_number())
+        year.working_day(month, REQUEST_DEADLINE)
     }
 
     /// The line that a grant writes.
@@ -103,31 +79,14 @@ impl Request {
         Line {
             user: self.user.into(),
             point: self.point.into(),
-            kind: self.product.line_kind(),
+            kind: match self.product {
+                Product::Annual => ANNUAL,
+                Product::Month(_) => MONTH,
+                Product::Day(_) => DAY,
+            },
             first: *span.start(),
             amount: granted.cast_signed(),
         }
-    }
-}
-
-impl Point {
-    /// Question 7. Direct points take annual requests only.
-    fn offers(&self, product: Product) -> bool {
-        self.kind != DIRECT || product == Product::Annual
-    }
-
-    /// The charge of an amount, summed up day by day. It is below 2^52: an
-    /// amount has at most seven digits, a rate six, a span 366 days.
-    pub fn charge(&self, amount: u32, span: &Span) -> u64 {
-        let of_a_day = u64::from(amount) * u64::from(self.rate);
-        span.clone().map(|_| of_a_day).sum()
-    }
-}
-
-impl Account {
-    /// Question 11.
-    pub(crate) fn covers(&self, charge: u64) -> bool {
-        self.commitment + charge <= self.guarantee
     }
 }
 
@@ -136,76 +95,47 @@ impl Register {
     /// is less; the amount granted is given. It is taken from each day of the
     /// span, its charge joins the commitment, and one line is written.
     pub fn request(&mut self, lent: &mut Lent, request: Request) -> Result<u32, Refusal> {
-        let (asked, span) = self.admit(lent, &request)?;
-        let point = &self.points[usize::from(request.point)];
+        let year = self.year_in_order(lent)?;
+        let (asked, point) = self.admit_request(&request)?;
+        let span = request.span(&year).ok_or(Refusal::OutsideYear)?;
+        let deadline = request.deadline(&year);
+        let is_in_time = deadline.is_some_and(|last| u32::from(request.arrival) <= last);
+        ensure(is_in_time, Refusal::Late)?;
+
+        let days = day_count(&span);
         let account = &mut self.accounts[usize::from(request.user)];
-        let charge_of_asked = point.charge(asked, &span);
-        ensure(account.covers(charge_of_asked), Refusal::NotCovered)?;
-
-        let days = free_on(lent.free, self.year, request.point, &span);
-        let least = days.iter().map(|free| **free).min().unwrap_or(0);
+        ensure(
+            account.covers(point.charge(asked, days)),
+            Refusal::NotCovered,
+        )?;
+        let amounts = lent.amounts(&year, request.point, &span);
+        let least = amounts.iter().copied().min().unwrap_or(0);
         ensure(least > 0, Refusal::NothingFree)?;
-
-        let mut places = lent.ledger.chunks_exact_mut(NUMBERS_IN_LINE);
-        let place = places.nth(self.lines.into());
-        let place = place.ok_or(Refusal::LedgerFull)?;
+        ensure(self.lines < LEDGER_LINES as u16, Refusal::LedgerFull)?;
 
         let granted = asked.min(least);
-        for free in days {
-            *free -= granted;
+        for amount in amounts {
+            *amount -= granted;
         }
-        account.commitment += point.charge(granted, &span);
-        place.copy_from_slice(&request.line(&span, granted).numbers());
-        self.lines += 1;
+        account.commitment += point.charge(granted, days);
+        self.write_line(lent.ledger, request.line(&span, granted));
         Ok(granted)
     }
 
-    /// The questions on the request itself, 1 to 9: the amount and the gas-days
-    /// that it asks for, of a point and a user that there are.
-    fn admit(&self, lent: &Lent, request: &Request) -> Result<(u32, Span), Refusal> {
-        self.ensure_in_order(lent)?;
-        let asked = request.asked().ok_or(Refusal::OutOfLimits)?;
+    /// Questions 2, 3, 5 and 7: the amount that is asked for, and the point.
+    fn admit_request(&self, request: &Request) -> Result<(u32, Point), Refusal> {
+        let asked = amount_within_limits(request.amount)?;
         let point = self.points.get(usize::from(request.point));
+        let point = point.ok_or(Refusal::OutOfLimits)?;
         let account = self.accounts.get(usize::from(request.user));
-        let (point, account) = point.zip(account).ok_or(Refusal::OutOfLimits)?;
+        let account = account.ok_or(Refusal::OutOfLimits)?;
+        if let Product::Month(month) = request.product {
+            ensure(MONTHS.contains(&month), Refusal::OutOfLimits)?;
+        }
         ensure(point.is_open(), Refusal::PointClosed)?;
         ensure(account.is_on_file(), Refusal::NotOnFile)?;
-        ensure(point.offers(request.product), Refusal::NotOffered)?;
-        let span = request.span(self.year).ok_or(Refusal::OutsideYear)?;
-        ensure(request.is_in_time(self.year), Refusal::Late)?;
-        Ok((asked, span))
+        let is_offered = point.kind != DIRECT || request.product == Product::Annual;
+        ensure(is_offered, Refusal::NotOffered)?;
+        Ok((asked, *point))
     }
-}
-
-/// Whether a call may arrive on a gas-day. Document 01, question 8: from
-/// 1 September before the thermal year to the year's last day.
-pub(crate) fn is_arrival(year: u16, day: u32) -> bool {
-    let first = Date::new(year, 9, 1).map(Date::day_number);
-    let last = thermal_year(year).map(|(_, last)| last);
-    first
-        .zip(last)
-        .is_some_and(|(first, last)| (first..=last).contains(&day))
-}
-
-/// The first of the month after a gas-day, on which what is asked for or ceded to
-/// the year's end begins.
-pub(crate) fn first_of_month_after(day: u32) -> Option<u32> {
-    let next = Date::from_day_number(day)?.first_of_next_month()?;
-    Some(next.day_number())
-}
-
-/// The free amounts of a point on the days of a span.
-pub(crate) fn free_on<'a>(
-    free: &'a mut [u32],
-    year: u16,
-    point: u8,
-    span: &Span,
-) -> Vec<&'a mut u32> {
-    let row = free.chunks_mut(DAYS_IN_ROW).nth(point.into());
-    let days = thermal_year(year).map(|(first, last)| first..=last);
-    let dated = row.into_iter().flatten().zip(days.into_iter().flatten());
-    dated
-        .filter(|(_, day)| span.contains(day))
-        .map(|(amount, _)| amount)
-        .collect()
 }

@@ -9,8 +9,8 @@
 //!   it after question 1; only an R of another kind is no call.
 
 use crate::cession::Cession;
+use crate::register::{Lent, Refusal, Register, LEDGER_LENGTH, TABLE_LENGTH};
 use crate::request::{Product, Request};
-use crate::script::{Answer, Host, Step};
 
 /// The length of a record.
 pub const RECORD_LENGTH: usize = 24;
@@ -48,53 +48,106 @@ pub fn lines(answers: &[Answered]) -> String {
 
 /// The answers of the records that are looked at, in their order.
 pub fn answers(input: &[u8]) -> Vec<Answered> {
-    let mut host = fresh_host();
+    let mut host = Host::new();
     let records = input.chunks(RECORD_LENGTH).take(MOST_RECORDS);
-    records.map(|record| answer(&mut host, record)).collect()
+    records.map(|record| host.answer(record)).collect()
 }
 
-/// A host with the register that the first record meets.
-pub(crate) fn fresh_host() -> Host {
-    let mut host = Host::default();
-    host.run(&Step::Fresh { year: FIRST_YEAR });
-    host
+/// The register with its lists.
+struct Host {
+    register: Register,
+    free: Vec<u32>,
+    ledger: Vec<u32>,
 }
 
-fn answer(host: &mut Host, record: &[u8]) -> Answered {
-    match call_of(record).map(|call| host.run(&call)) {
-        Some(Answer::Number(number)) => (number, 0),
-        Some(Answer::Amount(number, amount)) => (number, amount),
-        _ => (NO_CALL, 0),
+impl Host {
+    /// With the register that the first record meets.
+    fn new() -> Host {
+        Host {
+            register: Register::blank(FIRST_YEAR),
+            free: vec![0; TABLE_LENGTH],
+            ledger: vec![0; LEDGER_LENGTH],
+        }
     }
+
+    fn answer(&mut self, record: &[u8]) -> Answered {
+        match call_of(record).map(|call| self.make(call)) {
+            Some(Ok(amount)) => (0, amount),
+            Some(Err(refusal)) => (refusal.number(), 0),
+            None => (NO_CALL, 0),
+        }
+    }
+
+    /// Makes a call: the amount granted or ceded.
+    fn make(&mut self, call: Call) -> Result<u32, Refusal> {
+        let register = &mut self.register;
+        let lent = &mut Lent {
+            free: &mut self.free,
+            ledger: &mut self.ledger,
+        };
+        match call {
+            Call::Open {
+                point,
+                kind,
+                total,
+                rate,
+            } => register.open_point(lent, point, kind, total, rate)?,
+            Call::Place { user, guarantee } => register.place_guarantee(lent, user, guarantee)?,
+            Call::Request(request) => return register.request(lent, request),
+            Call::Cession(cession) => return register.cede(lent, cession),
+            Call::Turn { year } => register.turn_year(lent, year)?,
+        }
+        Ok(0)
+    }
+}
+
+/// A call that a record can hold.
+#[derive(Debug, Clone, Copy, PartialEq, Eq)]
+pub enum Call {
+    Open {
+        point: u8,
+        kind: u8,
+        total: u64,
+        rate: u32,
+    },
+    Place {
+        user: u8,
+        guarantee: u64,
+    },
+    Request(Request),
+    Cession(Cession),
+    Turn {
+        year: u16,
+    },
 }
 
 /// The call that a record makes; `None` if its letter is unknown, if it is an R
 /// of another kind, or if it is short.
-pub fn call_of(record: &[u8]) -> Option<Step> {
+pub fn call_of(record: &[u8]) -> Option<Call> {
     let record: &Record = record.try_into().ok()?;
     let fields = Fields::read(record);
-    match record[0] {
-        b'P' => Some(Step::Open {
+    Some(match record[0] {
+        b'P' => Call::Open {
             point: fields.point,
             kind: fields.kind,
             total: fields.amount,
             rate: fields.rate,
-        }),
-        b'G' => Some(Step::Place {
+        },
+        b'G' => Call::Place {
             user: fields.user,
             guarantee: fields.amount,
-        }),
-        b'R' => fields.request().map(Step::Request),
-        b'C' => Some(Step::Cession(Cession {
+        },
+        b'R' => Call::Request(fields.request()?),
+        b'C' => Call::Cession(Cession {
             giver: fields.user,
             receiver: fields.receiver,
             point: fields.point,
             arrival: fields.arrival,
             amount: fields.amount,
-        })),
-        b'Y' => Some(Step::Turn { year: fields.year }),
-        _ => None,
-    }
+        }),
+        b'Y' => Call::Turn { year: fields.year },
+        _ => return None,
+    })
 }
 
 /// All fields of a record, whether its letter uses them or not.
@@ -146,12 +199,11 @@ impl Fields {
     }
 }
 
-/// The record of a call, with the bytes of `unused` where its letter uses none;
-/// `None` if no record holds such a step.
-pub fn record_of(call: &Step, unused: Record) -> Option<Record> {
+/// The record of a call, with the bytes of `unused` where its letter uses none.
+pub fn record_of(call: &Call, unused: Record) -> Record {
     let mut record = unused;
     match *call {
-        Step::Open {
+        Call::Open {
             point,
             kind,
             total,
@@ -161,27 +213,28 @@ pub fn record_of(call: &Step, unused: Record) -> Option<Record> {
             put(&mut record, 12, &rate.to_le_bytes());
             put(&mut record, 16, &total.to_le_bytes());
         }
-        Step::Place { user, guarantee } => {
+        Call::Place { user, guarantee } => {
             put(&mut record, 0, b"G");
             put(&mut record, 3, &[user]);
             put(&mut record, 16, &guarantee.to_le_bytes());
         }
-        Step::Request(request) => put_request(&mut record, request),
-        Step::Cession(cession) => {
-            let users = [cession.giver, cession.receiver];
+        Call::Request(request) => put_request(&mut record, request),
+        Call::Cession(cession) => {
             put(&mut record, 0, b"C");
-            put(&mut record, 2, &[cession.point]);
-            put(&mut record, 3, &users);
+            put(
+                &mut record,
+                2,
+                &[cession.point, cession.giver, cession.receiver],
+            );
             put(&mut record, 8, &cession.arrival.to_le_bytes());
             put(&mut record, 16, &cession.amount.to_le_bytes());
         }
-        Step::Turn { year } => {
+        Call::Turn { year } => {
             put(&mut record, 0, b"Y");
             put(&mut record, 10, &year.to_le_bytes());
         }
-        _ => return None,
     }
-    Some(record)
+    record
 }
 
 fn put_request(record: &mut Record, request: Request) {

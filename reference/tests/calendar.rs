@@ -149,17 +149,13 @@ fn other_days_from_monday_to_friday_are_working_days() {
 fn working_days_of_the_proved_cases() {
     assert_eq!(nth_working_day(2023, 10, 11), Some(date(2023, 10, 16)));
     assert_eq!(nth_working_day(2024, 4, 11), Some(date(2024, 4, 16)));
-    assert_eq!(working_days(2023, 12).unwrap().len(), 18);
+    assert_eq!(working_days(2023, 12).unwrap().count(), 18);
     assert_eq!(nth_working_day(2023, 12, 16), Some(date(2023, 12, 27)));
 }
 
 #[test]
 fn working_days_of_december_2023_one_by_one() {
-    let days: Vec<u8> = working_days(2023, 12)
-        .unwrap()
-        .into_iter()
-        .map(Date::day)
-        .collect();
+    let days: Vec<u8> = working_days(2023, 12).unwrap().map(Date::day).collect();
     let expected = [
         1, 4, 5, 6, 7, 11, 12, 13, 14, 15, 18, 19, 20, 21, 22, 27, 28, 29,
     ];
@@ -169,8 +165,10 @@ fn working_days_of_december_2023_one_by_one() {
 #[test]
 fn every_month_has_at_least_18_working_days() {
     for (year, month) in all_months() {
-        let count = working_days(year, month).unwrap().len();
-        assert!((18..=23).contains(&count), "{year}-{month}: {count}");
+        let days: Vec<Date> = working_days(year, month).unwrap().collect();
+        assert!((18..=23).contains(&days.len()), "{year}-{month}: {days:?}");
+        let asked = all_dates().filter(|date| (date.year(), date.month()) == (year, month));
+        assert!(asked.filter(|&date| is_working_day(date)).eq(days));
     }
 }
 
@@ -195,41 +193,80 @@ fn first_of_next_month_follows_the_months_last_day() {
     }
 }
 
+fn thermal(year: u16) -> ThermalYear {
+    ThermalYear::new(year).expect("a thermal year")
+}
+
 #[test]
 fn thermal_years_follow_each_other() {
-    assert_eq!(thermal_year(2000).unwrap().0, 274);
-    assert_eq!(thermal_year(2023), Some((8_674, 9_039)));
+    assert_eq!(thermal(2000).days(), 274..=638);
+    assert_eq!(thermal(2023).days(), 8_674..=9_039);
     for year in THERMAL_YEARS {
-        let (first, last) = thermal_year(year).unwrap();
+        let days = thermal(year).days();
         let length = if is_leap_year(year + 1) { 366 } else { 365 };
-        assert_eq!(last - first + 1, length, "{year}");
-        if let Some((next_first, _)) = thermal_year(year + 1) {
-            assert_eq!(next_first, last + 1, "{year}");
+        assert_eq!(thermal(year).day_count(), length, "{year}");
+        assert_eq!(days.clone().count(), length, "{year}");
+        if let Some(next) = ThermalYear::new(year + 1) {
+            assert_eq!(*next.days().start(), days.end() + 1, "{year}");
         }
     }
 }
 
 #[test]
-fn thermal_months_fill_the_thermal_year() {
-    for year in THERMAL_YEARS {
-        let (mut expected, year_end) = thermal_year(year).unwrap();
-        for month in 1..=12 {
-            let (first, last) = thermal_month(year, month).unwrap();
-            assert_eq!(first, expected, "{year}, month {month}");
-            assert!((28..=31).contains(&(last - first + 1)));
-            expected = last + 1;
-        }
-        assert_eq!(expected, year_end + 1, "{year}");
+fn months_fill_the_thermal_year() {
+    for year in THERMAL_YEARS.map(thermal) {
+        let months: Vec<Span> = (1..=12).map(|month| year.month(month).unwrap()).collect();
+        let firsts: Vec<u32> = months.iter().map(|month| *month.start()).collect();
+        assert_eq!(firsts, year.month_firsts());
+        assert!(months
+            .iter()
+            .all(|month| (28..=31).contains(&month.clone().count())));
+        assert!(months.into_iter().flatten().eq(year.days()));
     }
 }
 
 #[test]
-fn thermal_months_begin_with_october() {
-    let first_day = |month| Date::from_day_number(thermal_month(2023, month).unwrap().0);
+fn months_begin_with_october() {
+    let first_day = |month| Date::from_day_number(*thermal(2023).month(month).unwrap().start());
     assert_eq!(first_day(1), Some(date(2023, 10, 1)));
     assert_eq!(first_day(3), Some(date(2023, 12, 1)));
     assert_eq!(first_day(4), Some(date(2024, 1, 1)));
     assert_eq!(first_day(12), Some(date(2024, 9, 1)));
+}
+
+/// Each gas-day around a year: whether a call may arrive, in which month, and what is
+/// left of the year then.
+#[test]
+fn arrivals_lie_from_the_september_before_the_year_to_its_end() {
+    for year in THERMAL_YEARS {
+        let last = *thermal(year).days().end();
+        let first = date(year, 9, 1).day_number();
+        assert_eq!(thermal(year).arrivals(), first..=last);
+        for day in first - 31..=last + 31 {
+            let date = Date::from_day_number(day).unwrap();
+            let month = (first..=last).contains(&day).then(|| match date.month() {
+                9 if date.year() == year => 0,
+                month => (month + 2) % 12 + 1,
+            });
+            assert_eq!(thermal(year).arrival_month(day), month, "{date}");
+            let next = date.first_of_next_month().map_or(0, Date::day_number);
+            let rest = (month.is_some() && next <= last).then_some(next..=last);
+            assert_eq!(thermal(year).rest_after(day), rest, "{date}");
+        }
+    }
+}
+
+#[test]
+fn deadlines_are_working_days_of_their_month() {
+    let on = |year, month, day| Some(date(year, month, day).day_number());
+    assert_eq!(thermal(2023).working_day(0, 11), on(2023, 9, 15));
+    assert_eq!(thermal(2023).working_day(1, 11), on(2023, 10, 16));
+    assert_eq!(thermal(2023).working_day(3, 16), on(2023, 12, 27));
+    assert_eq!(thermal(2023).working_day(7, 11), on(2024, 4, 16));
+    assert_eq!(thermal(2023).working_day(12, 11), on(2024, 9, 16));
+    for month in [13, 14, u8::MAX] {
+        assert_eq!(thermal(2023).working_day(month, 11), None);
+    }
 }
 
 #[test]
@@ -253,16 +290,15 @@ fn outside_dates_are_none() {
 fn outside_years_and_months_are_none() {
     for year in [0, 1999, 2100, u16::MAX] {
         assert_eq!(easter(year), None);
-        assert_eq!(working_days(year, 1), None);
+        assert!(working_days(year, 1).is_none());
         assert_eq!(nth_working_day(year, 1, 1), None);
     }
     for month in [0, 13, u8::MAX] {
-        assert_eq!(working_days(2023, month), None);
+        assert!(working_days(2023, month).is_none());
         assert_eq!(nth_working_day(2023, month, 1), None);
-        assert_eq!(thermal_month(2023, month), None);
+        assert_eq!(thermal(2023).month(month), None);
     }
     for year in [0, 1999, 2099, u16::MAX] {
-        assert_eq!(thermal_year(year), None);
-        assert_eq!(thermal_month(year, 1), None);
+        assert_eq!(ThermalYear::new(year), None);
     }
 }

@@ -5,8 +5,7 @@
 
 use reference::cession::Cession;
 use reference::request::{Product, Request};
-use reference::runner::{call_of, record_of, run, Record};
-use reference::script::Step;
+use reference::runner::{call_of, record_of, run, Call, Record};
 
 /// The worked example of document 01, byte by byte.
 const EXAMPLE: [Record; 6] = [
@@ -65,10 +64,10 @@ const READ: [(u8, u8, &[u8; 24]); 7] = [
 ];
 
 /// The calls of these letters where every other byte is one more than its place.
-fn calls() -> [Step; 7] {
+fn calls() -> [Call; 7] {
     let (point, user, arrival, amount) = (3, 4, 0x0a09, 0x1817_1615_1413_1211);
     let request = |product| {
-        Step::Request(Request {
+        Call::Request(Request {
             user,
             point,
             product,
@@ -76,14 +75,14 @@ fn calls() -> [Step; 7] {
             amount,
         })
     };
-    let open = Step::Open {
+    let open = Call::Open {
         point,
         kind: 2,
         total: amount,
         rate: 0x100f_0e0d,
     };
     let guarantee = amount;
-    let place = Step::Place { user, guarantee };
+    let place = Call::Place { user, guarantee };
     let cession = Cession {
         giver: user,
         receiver: 5,
@@ -93,20 +92,20 @@ fn calls() -> [Step; 7] {
     };
     let [annual, month, day] =
         [Product::Annual, Product::Month(6), Product::Day(0x0807)].map(request);
-    let turn = Step::Turn { year: 0x0c0b };
+    let turn = Call::Turn { year: 0x0c0b };
     [
         open,
         place,
         annual,
         month,
         day,
-        Step::Cession(cession),
+        Call::Cession(cession),
         turn,
     ]
 }
 
 /// Each record, the places of the bytes that are read, and the call.
-fn letters() -> impl Iterator<Item = (Record, Vec<usize>, Step)> {
+fn letters() -> impl Iterator<Item = (Record, Vec<usize>, Call)> {
     READ.into_iter()
         .zip(calls())
         .map(|((letter, kind, read), call)| {
@@ -162,7 +161,7 @@ fn used_bytes_are_read() {
 fn records_are_written_as_they_are_read() {
     for (record, used, call) in letters() {
         for noise in [0, 0x5a, u8::MAX] {
-            let written = record_of(&call, [noise; 24]).expect("a record");
+            let written = record_of(&call, [noise; 24]);
             for place in 0..24 {
                 let expected = match used.contains(&place) {
                     true => record[place],
@@ -172,8 +171,6 @@ fn records_are_written_as_they_are_read() {
             }
         }
     }
-    let report = Step::Report { point: 0, day: 274 };
-    assert_eq!(record_of(&report, [0; 24]), None);
 }
 
 #[test]
@@ -181,7 +178,7 @@ fn worked_example_with_noise() {
     for noise in [1, 77, u8::MAX] {
         let noisy = EXAMPLE.map(|record| {
             let call = call_of(&record).expect("a call");
-            record_of(&call, [noise; 24]).expect("a record")
+            record_of(&call, [noise; 24])
         });
         assert_ne!(noisy, EXAMPLE);
         assert_eq!(printed(&noisy), EXAMPLE_LINES);

@@ -13,8 +13,7 @@
 use std::io::{self, BufWriter, Write};
 
 use reference::calendar::{
-    easter, is_working_day, own_deadline, preceding_deadline, thermal_month, thermal_year,
-    working_days, Date, THERMAL_YEARS, YEARS,
+    easter, is_working_day, nth_working_day, working_days, Date, ThermalYear, THERMAL_YEARS, YEARS,
 };
 use reference::request::REQUEST_DEADLINE;
 
@@ -44,7 +43,7 @@ fn easter_line(year: u16) -> Option<String> {
 }
 
 fn month_line(year: u16, month: u8) -> Option<String> {
-    let days = working_days(year, month)?;
+    let days: Vec<Date> = working_days(year, month)?.collect();
     let mut line = format!("{year:04}-{month:02} {}", days.len());
     for n in PRINTED_WORKING_DAYS {
         line += &format!(" {}", days.get(n - 1)?.day());
@@ -53,10 +52,11 @@ fn month_line(year: u16, month: u8) -> Option<String> {
 }
 
 fn thermal_line(year: u16) -> Option<String> {
-    let (first, last) = thermal_year(year)?;
+    let thermal = ThermalYear::new(year)?;
+    let (first, last) = thermal.days().into_inner();
     let mut line = format!("thermal {year} {first} {last}");
     for month in 1..=12 {
-        let (first, last) = thermal_month(year, month)?;
+        let (first, last) = thermal.month(month)?.into_inner();
         line += &format!(" {first} {last}");
     }
     Some(line)
@@ -71,8 +71,7 @@ fn days_line(year: u16, month: u8) -> Option<String> {
     let count = |test: &dyn Fn(Date) -> bool| dates.iter().filter(|&&date| test(date)).count();
 
     let working = count(&is_working_day);
-    let in_time =
-        count(&|date| own_deadline(date, REQUEST_DEADLINE).is_some_and(|last| date <= last));
+    let in_time = count(&|date| deadline_in(date).is_some_and(|last| date <= last));
     let in_time_for_next = count(&|date| next_deadline.is_some_and(|last| date <= last));
     let followed = count(&|date| Date::from_day_number(date.day_number() + 1).is_some());
     let exist = dates.len();
@@ -83,14 +82,23 @@ fn days_line(year: u16, month: u8) -> Option<String> {
     ))
 }
 
+/// The deadline of annual requests that arrive in the month of a date.
+fn deadline_in(date: Date) -> Option<Date> {
+    nth_working_day(date.year(), date.month(), REQUEST_DEADLINE)
+}
+
 /// The deadline of requests for the month of a thermal year that begins on a
 /// date; `None` if none does.
 fn deadline_for(first: Date) -> Option<Date> {
     let years = THERMAL_YEARS.filter(|year| year.abs_diff(first.year()) <= 1);
-    years
-        .flat_map(|year| (1..=12).map(move |month| (year, month)))
-        .find(|&(year, month)| {
-            thermal_month(year, month).is_some_and(|span| span.0 == first.day_number())
-        })
-        .and_then(|(year, month)| preceding_deadline(year, month, REQUEST_DEADLINE))
+    let years: Vec<ThermalYear> = years.filter_map(ThermalYear::new).collect();
+    let months = years
+        .iter()
+        .flat_map(|year| (1..=12).map(move |month| (year, month)));
+    let begins = |(year, month): &(&ThermalYear, u8)| {
+        year.month(*month)
+            .is_some_and(|span| *span.start() == first.day_number())
+    };
+    let (year, month) = months.into_iter().find(begins)?;
+    Date::from_day_number(year.working_day(month - 1, REQUEST_DEADLINE)?)
 }
