@@ -5,7 +5,8 @@
 pub struct Generator(pub u64);
 
 impl Generator {
-    pub fn next(&mut self) -> u64 {
+    /// Any number.
+    pub fn any(&mut self) -> u64 {
         self.0 = self.0.wrapping_add(0x9e37_79b9_7f4a_7c15);
         let mut z = self.0;
         z = (z ^ (z >> 30)).wrapping_mul(0xbf58_476d_1ce4_e5b9);
@@ -15,7 +16,7 @@ impl Generator {
 
     /// A number from 0 to below `end`.
     pub fn below<T: TryFrom<u64>>(&mut self, end: u64) -> T {
-        T::try_from(self.next() % end).ok().expect("a small number")
+        T::try_from(self.any() % end).ok().expect("a small number")
     }
 
     /// A gas-day from `first` to `last`.
@@ -28,6 +29,6 @@ impl Generator {
     }
 
     pub fn in_hundred(&mut self, chances: u64) -> bool {
-        self.next() % 100 < chances
+        self.any() % 100 < chances
     }
 }
