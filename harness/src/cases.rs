@@ -365,6 +365,13 @@ fn altered(
 fn every_call(year: u16) -> Vec<Call> {
     let day = ThermalYear::new(year).map_or(0, |year| *year.days().start() as u16 + 1);
     let (point, arrival, amount) = (0, day.saturating_sub(1), 1);
+    let request = Request {
+        user: 5,
+        point,
+        product: Product::Day(day),
+        arrival,
+        amount,
+    };
     vec![
         Call::InOrder,
         Call::Report { point, day },
@@ -378,13 +385,8 @@ fn every_call(year: u16) -> Vec<Call> {
             user: 9,
             guarantee: 70,
         },
-        Call::Request(Request {
-            user: 5,
-            point,
-            product: Product::Day(day),
-            arrival,
-            amount,
-        }),
+        Call::Request(request),
+        Call::OfNoKind(0, request),
         Call::Batch(Batch::new(point, vec![5], vec![amount])),
         Call::Cession(Cession {
             giver: 5,

@@ -7,5 +7,9 @@
 pub mod books;
 pub mod calls;
 pub mod cases;
+pub mod draws;
 pub mod numbers;
+pub mod shrink;
 pub mod sides;
+pub mod streams;
+pub mod tally;
