@@ -35,6 +35,7 @@ pub struct Sequence {
     busy_month: u8,
     /// What damaged fields held before, the last damage last.
     repairs: Vec<(Field, u64)>,
+    is_in_call: bool,
 }
 
 impl Sequence {
@@ -46,13 +47,16 @@ impl Sequence {
             steps: Vec::new(),
             busy_month: 1,
             repairs: Vec::new(),
+            is_in_call: false,
         }
     }
 
-    /// Makes a call, and adds it.
+    /// Adds a call, and makes it.
     pub fn call(&mut self, call: Call) -> Answer {
+        self.steps.push(Step::Call(call.clone()));
+        self.is_in_call = true;
         let answer = self.books.run(&call);
-        self.steps.push(Step::Call(call));
+        self.is_in_call = false;
         answer
     }
 

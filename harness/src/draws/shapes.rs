@@ -1,5 +1,7 @@
 //! What the sequences are made of that both registers run.
 
+use std::panic::{self, AssertUnwindSafe};
+
 use reference::calendar::THERMAL_YEARS;
 use reference::register::LEDGER_LINES;
 
@@ -50,20 +52,15 @@ pub fn calls(seed: u64) -> Vec<Step> {
     of_shape(seed, shapes[(seed % shapes.len() as u64) as usize])
 }
 
+/// The steps of a shape. A call that the everyday register does not survive is the
+/// last of them: whoever runs them meets it again.
 fn of_shape(seed: u64, shape: Shape) -> Vec<Step> {
     let mut sequence = Sequence::new(Generator(seed));
-    sequence.start(shape);
-    let turns = 60 + sequence.numbers.below::<u32>(60);
-    let mut made = 0;
-    let is_last = |sequence: &Sequence| sequence.books.register.year >= *THERMAL_YEARS.end();
-    while made < turns || shape == Shape::Years && !is_last(&sequence) {
-        match shape {
-            Shape::Damages => sequence.damage_or_call(),
-            _ => sequence.call_of(shape),
-        }
-        made += 1;
+    let made = panic::catch_unwind(AssertUnwindSafe(|| sequence.make(shape)));
+    match made {
+        Err(cause) if !sequence.is_in_call => panic::resume_unwind(cause),
+        _ => sequence.steps,
     }
-    sequence.steps
 }
 
 /// A register with a full ledger, or nearly so, and no call after it.
@@ -74,6 +71,20 @@ pub fn full_ledger(seed: u64) -> Vec<Step> {
 }
 
 impl Sequence {
+    fn make(&mut self, shape: Shape) {
+        self.start(shape);
+        let turns = 60 + self.numbers.below::<u32>(60);
+        let mut made = 0;
+        let last_year = *THERMAL_YEARS.end();
+        while made < turns || shape == Shape::Years && self.books.register.year < last_year {
+            match shape {
+                Shape::Damages => self.damage_or_call(),
+                _ => self.call_of(shape),
+            }
+            made += 1;
+        }
+    }
+
     /// A fresh register, sometimes after one that is refused, with points open and
     /// users on file.
     fn start(&mut self, shape: Shape) {
