@@ -8,6 +8,8 @@
 //! - an arrival outside the calendar is refused by question 8;
 //! - the two lines of a cession are written after the last one used.
 
+use std::ops::Range;
+
 use crate::calendar::{Span, ThermalYear};
 use crate::register::{
     amount_within_limits, day_count, ensure, used_lines, Lent, Line, Refusal, Register, ANNUAL,
@@ -61,10 +63,11 @@ impl Line {
     }
 }
 
-/// What a ledger line gives or takes, and the days on which it does.
+/// What a ledger line gives or takes, and the days on which it does. A range
+/// without its end is looked up faster than a [`Span`].
 struct Part {
-    days: Span,
-    amount: i64,
+    days: Range<u32>,
+    amount: i32,
 }
 
 /// What a user holds at a point, by his ledger lines there.
@@ -74,7 +77,7 @@ impl Held {
     /// What a user holds at a point on a gas-day: the sum of his lines there.
     pub fn on(&self, day: u32) -> i64 {
         let parts = self.0.iter().filter(|part| part.days.contains(&day));
-        parts.map(|part| part.amount).sum()
+        parts.map(|part| i64::from(part.amount)).sum()
     }
 }
 
@@ -137,15 +140,18 @@ impl Register {
     }
 
     /// What a user holds at a point. His lines there are picked out first, so
-    /// that a day is looked up in these only.
+    /// that a day is looked up in these only. The register is in order.
     pub fn held(&self, year: &ThermalYear, ledger: &[u32], user: u8, point: u8) -> Held {
         let lines = used_lines(ledger, self.lines)
             .filter(|line| line.user == u32::from(user) && line.point == u32::from(point));
         let part = |line: Line| Part {
-            days: line.first..=line.last(year),
-            amount: line.amount.into(),
+            days: line.first..line.last(year) + 1,
+            amount: line.amount,
         };
-        Held(lines.map(part).collect())
+        // With room for every line it is not moved while it grows.
+        let mut parts = Vec::with_capacity(self.lines.into());
+        parts.extend(lines.map(part));
+        Held(parts)
     }
 
     /// The first day of a span on which a user holds less than an amount. The
