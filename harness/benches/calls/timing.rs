@@ -15,10 +15,8 @@ pub type Stopwatch<'a> = Box<dyn FnMut() -> Duration + 'a>;
 
 const ROUNDS: usize = 31;
 
-/// Calls at the beginning of a turn that are not counted.
+/// Calls at the beginning of a turn that are not counted, and the fewest that are.
 const WARMING: usize = 3;
-
-/// The fewest calls of a turn that are counted.
 const COUNTED: usize = 3;
 
 /// How long a turn lasts: long enough for hundreds of quick calls, short enough
@@ -32,34 +30,30 @@ pub fn timed<Answer>(work: impl FnOnce() -> Answer) -> Duration {
     start.elapsed()
 }
 
-/// What the versions of a call take, the first of them being the proved one.
-pub struct Times {
+/// What a version takes.
+pub struct Time {
     /// Nanoseconds of a call.
-    pub nanos: Vec<f64>,
-    /// How many times as long as the first version each takes. Of one round all
-    /// versions are compared with each other, so that a slow spell of the machine
-    /// does not fall on one of them.
-    pub ratios: Vec<f64>,
+    pub nanos: f64,
+    /// How many times as long as the first version, compared within a round, so
+    /// that a slow spell of the machine does not fall on one of them.
+    pub ratio: f64,
 }
 
 /// Times the versions, in rounds in which they take turns.
-pub fn times(mut versions: Vec<Stopwatch>) -> Times {
+pub fn times(mut versions: Vec<Stopwatch>) -> Vec<Time> {
     let rounds: Vec<Vec<f64>> = (0..ROUNDS).map(|_| round(&mut versions)).collect();
-    let column = |of: &dyn Fn(&[f64]) -> f64| median(rounds.iter().map(|r| of(r)).collect());
-    let count = versions.len();
-    Times {
-        nanos: (0..count).map(|i| column(&|r| r[i])).collect(),
-        ratios: (0..count).map(|i| column(&|r| r[i] / r[0])).collect(),
-    }
+    let time = |i: usize| Time {
+        nanos: median(rounds.iter().map(|round| round[i]).collect()),
+        ratio: median(rounds.iter().map(|round| round[i] / round[0]).collect()),
+    };
+    (0..versions.len()).map(time).collect()
 }
 
 /// The median of each version in one round, without the clock's own time.
 fn round(versions: &mut [Stopwatch]) -> Vec<f64> {
     let clock = turn(&mut || timed(|| ()));
-    versions
-        .iter_mut()
-        .map(|version| turn(version) - clock)
-        .collect()
+    let turns = versions.iter_mut().map(|version| turn(version));
+    turns.map(|turn| turn - clock).collect()
 }
 
 /// The turn of one version: the median of the calls that are counted.

@@ -2,36 +2,32 @@
 //! with no early exit, so that the loop is vectorised, and the months' firsts are
 //! marked in a table.
 
-use ylgrandi::sys::{Account, Point, Register, LEDGER, LINE, LINES, ROW, TABLE};
+use harness::books::Everyday;
+use reference::calendar::ThermalYear;
+use reference::register::*;
 
-use crate::idiomatic::ThermalYear;
-use crate::limits::*;
-
-pub fn in_order(r: &Register, free: &[u32], ledger: &[u32]) -> bool {
-    let Some(year) = ThermalYear::new(r.year) else {
+pub fn in_order(books: &Everyday) -> bool {
+    let (r, lists) = (&books.register, &books.lists);
+    let (free, ledger) = (
+        &lists.free[..lists.free_lent],
+        &lists.ledger[..lists.ledger_lent],
+    );
+    let used = usize::from(r.lines);
+    let fits = free.len() == TABLE_LENGTH && ledger.len() == LEDGER_LENGTH && used <= LEDGER_LINES;
+    let Some(year) = ThermalYear::new(r.year).filter(|_| fits) else {
         return false;
     };
-    let used = usize::from(r.lines);
-    if free.len() != TABLE || ledger.len() != LEDGER || used > LINES {
-        return false;
-    }
-    if !(all(&r.points, point_in_order) & all(&r.accounts, account_in_order)) {
-        return false;
-    }
-    let days = year.len();
-    let mut rows = r.points.iter().zip(free.chunks_exact(ROW));
-    if !rows.all(|(point, row)| row_in_order(point, row, days)) {
-        return false;
-    }
-    let begin = *year.days.start();
-    let mut marks = [false; ROW];
-    for first in year.month_firsts {
+    let (begin, days) = (*year.days().start(), year.day_count());
+    let mut marks = [false; DAYS_IN_ROW];
+    for first in year.month_firsts() {
         marks[(first - begin) as usize] = true;
     }
-    let marks = &marks[..days];
-    ledger[..LINE * used]
-        .chunks_exact(LINE)
-        .all(|line| line_in_order(r, begin, marks, line))
+    let mut rows = r.points.iter().zip(free.chunks_exact(DAYS_IN_ROW));
+    let mut lines = ledger[..NUMBERS_IN_LINE * used].chunks_exact(NUMBERS_IN_LINE);
+    all(&r.points, point_in_order)
+        && all(&r.accounts, account_in_order)
+        && rows.all(|(point, row)| row_in_order(point, row, days))
+        && lines.all(|line| line_in_order(r, begin, &marks[..days], line))
 }
 
 /// Every element passes; all are tested.
@@ -42,13 +38,13 @@ fn all<T>(list: &[T], test: impl Fn(&T) -> bool) -> bool {
 fn point_in_order(p: &Point) -> bool {
     (p.kind == 0) & (p.total == 0) & (p.rate == 0)
         | (p.kind.wrapping_sub(1) < 2)
-            & (p.total.wrapping_sub(1) < MOST_AMOUNT)
-            & (p.rate <= MOST_RATE)
+            & (p.total.wrapping_sub(1) < *AMOUNTS.end())
+            & (p.rate <= *RATES.end())
 }
 
 fn account_in_order(a: &Account) -> bool {
     (a.on_file == 0) & (a.guarantee == 0) & (a.commitment == 0)
-        | (a.on_file == 1) & (a.guarantee <= MOST_GUARANTEE) & (a.commitment <= a.guarantee)
+        | (a.on_file == 1) & (a.guarantee <= *GUARANTEES.end()) & (a.commitment <= a.guarantee)
 }
 
 fn row_in_order(point: &Point, row: &[u32], days: usize) -> bool {
@@ -71,5 +67,5 @@ fn line_in_order(r: &Register, begin: u32, marks: &[bool], line: &[u32]) -> bool
         & (point.kind > 0)
         & (kind.wrapping_sub(1) < 3)
         & ((kind != MONTH) | opens)
-        & (amount.cast_signed().unsigned_abs().wrapping_sub(1) < MOST_AMOUNT)
+        & (amount.cast_signed().unsigned_abs().wrapping_sub(1) < *AMOUNTS.end())
 }
