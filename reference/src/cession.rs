@@ -63,8 +63,9 @@ impl Line {
 
 /// What a ledger line gives or takes, and the days on which it does.
 struct Part {
-    days: Span,
-    amount: i64,
+    first: u32,
+    last: u32,
+    amount: i32,
 }
 
 /// What a user holds at a point, by his ledger lines there.
@@ -73,8 +74,11 @@ pub struct Held(Vec<Part>);
 impl Held {
     /// What a user holds at a point on a gas-day: the sum of his lines there.
     pub fn on(&self, day: u32) -> i64 {
-        let parts = self.0.iter().filter(|part| part.days.contains(&day));
-        parts.map(|part| part.amount).sum()
+        let parts = self.0.iter();
+        parts
+            .filter(|part| part.first <= day && day <= part.last)
+            .map(|part| i64::from(part.amount))
+            .sum()
     }
 }
 
@@ -142,10 +146,14 @@ impl Register {
         let lines = used_lines(ledger, self.lines)
             .filter(|line| line.user == u32::from(user) && line.point == u32::from(point));
         let part = |line: Line| Part {
-            days: line.first..=line.last(year),
-            amount: line.amount.into(),
+            first: line.first,
+            last: line.last(year),
+            amount: line.amount,
         };
-        Held(lines.map(part).collect())
+        // With room for every line it is not moved while it grows.
+        let mut parts = Vec::with_capacity(self.lines.into());
+        parts.extend(lines.map(part));
+        Held(parts)
     }
 
     /// The first day of a span on which a user holds less than an amount. The
