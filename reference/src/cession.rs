@@ -8,6 +8,8 @@
 //! - an arrival outside the calendar is refused by question 8;
 //! - the two lines of a cession are written after the last one used.
 
+use std::ops::Range;
+
 use crate::calendar::{Span, ThermalYear};
 use crate::register::{
     amount_within_limits, day_count, ensure, used_lines, Lent, Line, Refusal, Register, ANNUAL,
@@ -61,10 +63,10 @@ impl Line {
     }
 }
 
-/// What a ledger line gives or takes, and the days on which it does.
+/// What a ledger line gives or takes, and the days on which it does. A range
+/// without its end is looked up faster than a [`Span`].
 struct Part {
-    first: u32,
-    last: u32,
+    days: Range<u32>,
     amount: i32,
 }
 
@@ -74,11 +76,8 @@ pub struct Held(Vec<Part>);
 impl Held {
     /// What a user holds at a point on a gas-day: the sum of his lines there.
     pub fn on(&self, day: u32) -> i64 {
-        let parts = self.0.iter();
-        parts
-            .filter(|part| part.first <= day && day <= part.last)
-            .map(|part| i64::from(part.amount))
-            .sum()
+        let parts = self.0.iter().filter(|part| part.days.contains(&day));
+        parts.map(|part| i64::from(part.amount)).sum()
     }
 }
 
@@ -146,8 +145,7 @@ impl Register {
         let lines = used_lines(ledger, self.lines)
             .filter(|line| line.user == u32::from(user) && line.point == u32::from(point));
         let part = |line: Line| Part {
-            first: line.first,
-            last: line.last(year),
+            days: line.first..line.last(year).saturating_add(1),
             amount: line.amount,
         };
         // With room for every line it is not moved while it grows.

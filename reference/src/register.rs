@@ -131,7 +131,8 @@ impl Line {
 /// The lines of a ledger that are used.
 pub(crate) fn used_lines(ledger: &[u32], lines: u16) -> impl Iterator<Item = Line> + '_ {
     let (all, _) = ledger.as_chunks();
-    all.iter().take(lines.into()).map(Line::read)
+    let used = all.len().min(lines.into());
+    all[..used].iter().map(Line::read)
 }
 
 /// Why a call is refused: the question of document 01 that is answered no.
