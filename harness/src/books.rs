@@ -132,14 +132,7 @@ impl Everyday {
         let register = &mut self.register;
         let given = match *call {
             Call::Fresh { year } => register.renew(lent, year).map(|()| 0),
-            Call::Open {
-                point,
-                kind,
-                total,
-                rate,
-            } => register
-                .open_point(lent, point, kind, total, rate)
-                .map(|()| 0),
+            Call::Open(opening) => register.open_point(lent, opening).map(|()| 0),
             Call::Place { user, guarantee } => {
                 register.place_guarantee(lent, user, guarantee).map(|()| 0)
             }
@@ -299,17 +292,12 @@ impl Proved {
         let ledger = &mut lists.ledger[..lists.ledger_lent];
         let answer = match *call {
             Call::Fresh { year } => sys::fresh(year, free, ledger),
-            Call::Open {
-                point,
-                kind,
-                total,
-                rate,
-            } => {
+            Call::Open(o) => {
                 let opening = sys::Opening {
-                    point,
-                    kind,
-                    total,
-                    rate,
+                    point: o.point,
+                    kind: o.kind,
+                    total: o.total,
+                    rate: o.rate,
                 };
                 sys::open_point(r, free, ledger, opening)
             }

@@ -3,7 +3,7 @@
 use std::fmt;
 
 use reference::cession::{Cession, Holding};
-use reference::register::{DAYS_IN_ROW, NUMBERS_IN_LINE};
+use reference::register::{Opening, DAYS_IN_ROW, NUMBERS_IN_LINE};
 use reference::request::{Product, Request};
 
 /// A call with fields of any value.
@@ -12,12 +12,7 @@ pub enum Call {
     Fresh {
         year: u16,
     },
-    Open {
-        point: u8,
-        kind: u8,
-        total: u64,
-        rate: u32,
-    },
+    Open(Opening),
     Place {
         user: u8,
         guarantee: u64,
@@ -45,7 +40,7 @@ impl Call {
     pub fn name(&self) -> &'static str {
         match self {
             Call::Fresh { .. } => "fresh",
-            Call::Open { .. } => "open",
+            Call::Open(_) => "open",
             Call::Place { .. } => "guarantee",
             Call::Request(_) => "request",
             Call::OfNoKind(..) => "request of no kind",
@@ -197,12 +192,7 @@ impl fmt::Display for Call {
     fn fmt(&self, f: &mut fmt::Formatter<'_>) -> fmt::Result {
         match self {
             Call::Fresh { year } => write!(f, "fresh {year}"),
-            Call::Open {
-                point,
-                kind,
-                total,
-                rate,
-            } => write!(f, "open {point} {kind} {total} {rate}"),
+            Call::Open(o) => write!(f, "open {} {} {} {}", o.point, o.kind, o.total, o.rate),
             Call::Place { user, guarantee } => write!(f, "guarantee {user} {guarantee}"),
             Call::Request(request) => {
                 let product = match request.product {

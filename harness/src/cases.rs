@@ -8,7 +8,7 @@ use std::str::{FromStr, SplitWhitespace};
 
 use reference::calendar::ThermalYear;
 use reference::cession::{Cession, Holding};
-use reference::register::{DAYS_IN_ROW, NUMBERS_IN_LINE};
+use reference::register::{Opening, DAYS_IN_ROW, NUMBERS_IN_LINE};
 use reference::request::{Product, Request};
 
 use crate::calls::{Answer, Batch, Call, Field, Step, LINE_PARTS};
@@ -146,12 +146,12 @@ fn read_call(word: &str, rest: &str) -> Result<Call, String> {
         "fresh" => Call::Fresh {
             year: words.number()?,
         },
-        "open" => Call::Open {
+        "open" => Call::Open(Opening {
             point: words.number()?,
             kind: words.number()?,
             total: words.number()?,
             rate: words.number()?,
-        },
+        }),
         "guarantee" => Call::Place {
             user: words.number()?,
             guarantee: words.number()?,
@@ -375,12 +375,12 @@ fn every_call(year: u16) -> Vec<Call> {
     vec![
         Call::InOrder,
         Call::Report { point, day },
-        Call::Open {
+        Call::Open(Opening {
             point: 7,
             kind: 1,
             total: 50,
             rate: 60,
-        },
+        }),
         Call::Place {
             user: 9,
             guarantee: 70,

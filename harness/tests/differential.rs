@@ -15,7 +15,7 @@ use harness::sides::Sides;
 use harness::tally::Tally;
 use reference::calendar::{Date, ThermalYear, THERMAL_YEARS};
 use reference::cession::{Cession, Holding};
-use reference::register::{LEDGER_LENGTH, LEDGER_LINES, NUMBERS_IN_LINE, TABLE_LENGTH};
+use reference::register::{Opening, LEDGER_LENGTH, LEDGER_LINES, NUMBERS_IN_LINE, TABLE_LENGTH};
 use reference::request::{Product, Request};
 
 /// How many sequences are run: enough that each answer is frequent.
@@ -98,12 +98,12 @@ fn every_single_number_is_asked_for_alike() {
 fn year_without_guarantees(year: u16) -> Sides {
     let calls = [
         Call::Fresh { year },
-        Call::Open {
+        Call::Open(Opening {
             point: 0,
             kind: 2,
             total: MOST_AMOUNT,
             rate: 1,
-        },
+        }),
         Call::Place {
             user: 0,
             guarantee: 0,
@@ -321,12 +321,12 @@ fn lengths_are_seen_whole() {
     let batch = |lines: usize| Call::Batch(Batch::new(0, vec![5; lines], vec![1; lines]));
     let calls = [
         Call::Fresh { year: 2023 },
-        Call::Open {
+        Call::Open(Opening {
             point: 0,
             kind: 2,
             total: 100,
             rate: 1,
-        },
+        }),
         Call::Place {
             user: 5,
             guarantee: 1_000_000,
@@ -355,7 +355,7 @@ fn lengths_are_seen_whole() {
 #[test]
 fn a_failing_list_is_cut_down() {
     let steps = shapes::steps(2);
-    let is_opening = |step: &Step| matches!(step, Step::Call(Call::Open { .. }));
+    let is_opening = |step: &Step| matches!(step, Step::Call(Call::Open(_)));
     let is_batch = |step: &Step| matches!(step, Step::Call(Call::Batch(_)));
     let fails = |steps: &[Step]| {
         let opened = steps.iter().position(is_opening);

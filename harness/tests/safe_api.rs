@@ -58,13 +58,8 @@ fn point_kind(kind: u8) -> Option<PointKind> {
 /// Makes a call; `None` for one that cannot be said with these types.
 fn call(register: &mut Register, call: &Call) -> Option<Given> {
     Some(match *call {
-        Call::Open {
-            point,
-            kind,
-            total,
-            rate,
-        } => {
-            let opened = register.open_point(point, point_kind(kind)?, total, rate);
+        Call::Open(o) => {
+            let opened = register.open_point(o.point, point_kind(o.kind)?, o.total, o.rate);
             one(opened.map(|()| 0))
         }
         Call::Place { user, guarantee } => {

@@ -74,6 +74,15 @@ impl Point {
     }
 }
 
+/// A point that is to be opened.
+#[derive(Debug, Clone, Copy, PartialEq, Eq)]
+pub struct Opening {
+    pub point: u8,
+    pub kind: u8,
+    pub total: u64,
+    pub rate: u32,
+}
+
 /// The account of a user, on file where `on_file` is 1.
 #[derive(Debug, Clone, Copy, PartialEq, Eq, Default)]
 pub struct Account {
@@ -240,18 +249,12 @@ impl Register {
 
     /// Opens a point: every gas-day of the year is free to the total. Questions
     /// 1, 2 and 4.
-    pub fn open_point(
-        &mut self,
-        lent: &mut Lent,
-        point: u8,
-        kind: u8,
-        total: u64,
-        rate: u32,
-    ) -> Result<(), Refusal> {
+    pub fn open_point(&mut self, lent: &mut Lent, opening: Opening) -> Result<(), Refusal> {
         let year = self.year_in_order(lent)?;
+        let Opening { point, kind, .. } = opening;
         let place = self.points.get_mut(usize::from(point));
         let place = place.ok_or(Refusal::OutOfLimits)?;
-        let total = amount_within_limits(total)?;
+        let (total, rate) = (amount_within_limits(opening.total)?, opening.rate);
         let fits = KINDS.contains(&kind) && RATES.contains(&rate);
         ensure(fits, Refusal::OutOfLimits)?;
         ensure(!place.is_open(), Refusal::PointOpen)?;

@@ -9,7 +9,7 @@
 //!   it after question 1; only an R of another kind is no call.
 
 use crate::cession::Cession;
-use crate::register::{Lent, Refusal, Register, LEDGER_LENGTH, TABLE_LENGTH};
+use crate::register::{Lent, Opening, Refusal, Register, LEDGER_LENGTH, TABLE_LENGTH};
 use crate::request::{Product, Request};
 
 /// The length of a record.
@@ -86,12 +86,7 @@ impl Host {
             ledger: &mut self.ledger,
         };
         match call {
-            Call::Open {
-                point,
-                kind,
-                total,
-                rate,
-            } => register.open_point(lent, point, kind, total, rate)?,
+            Call::Open(opening) => register.open_point(lent, opening)?,
             Call::Place { user, guarantee } => register.place_guarantee(lent, user, guarantee)?,
             Call::Request(request) => return register.request(lent, request),
             Call::Cession(cession) => return register.cede(lent, cession),
@@ -104,21 +99,11 @@ impl Host {
 /// A call that a record can hold.
 #[derive(Debug, Clone, Copy, PartialEq, Eq)]
 pub enum Call {
-    Open {
-        point: u8,
-        kind: u8,
-        total: u64,
-        rate: u32,
-    },
-    Place {
-        user: u8,
-        guarantee: u64,
-    },
+    Open(Opening),
+    Place { user: u8, guarantee: u64 },
     Request(Request),
     Cession(Cession),
-    Turn {
-        year: u16,
-    },
+    Turn { year: u16 },
 }
 
 /// The call that a record makes; `None` if its letter is unknown, if it is an R
@@ -127,12 +112,12 @@ pub fn call_of(record: &[u8]) -> Option<Call> {
     let record: &Record = record.try_into().ok()?;
     let fields = Fields::read(record);
     Some(match record[0] {
-        b'P' => Call::Open {
+        b'P' => Call::Open(Opening {
             point: fields.point,
             kind: fields.kind,
             total: fields.amount,
             rate: fields.rate,
-        },
+        }),
         b'G' => Call::Place {
             user: fields.user,
             guarantee: fields.amount,
@@ -203,15 +188,10 @@ impl Fields {
 pub fn record_of(call: &Call, unused: Record) -> Record {
     let mut record = unused;
     match *call {
-        Call::Open {
-            point,
-            kind,
-            total,
-            rate,
-        } => {
-            put(&mut record, 0, &[b'P', kind, point]);
-            put(&mut record, 12, &rate.to_le_bytes());
-            put(&mut record, 16, &total.to_le_bytes());
+        Call::Open(opening) => {
+            put(&mut record, 0, &[b'P', opening.kind, opening.point]);
+            put(&mut record, 12, &opening.rate.to_le_bytes());
+            put(&mut record, 16, &opening.total.to_le_bytes());
         }
         Call::Place { user, guarantee } => {
             put(&mut record, 0, b"G");

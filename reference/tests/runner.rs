@@ -4,6 +4,7 @@
 //! to 638.
 
 use reference::cession::Cession;
+use reference::register::Opening;
 use reference::request::{Product, Request};
 use reference::runner::{call_of, record_of, run, Call, Record};
 
@@ -75,12 +76,12 @@ fn calls() -> [Call; 7] {
             amount,
         })
     };
-    let open = Call::Open {
+    let open = Call::Open(Opening {
         point,
         kind: 2,
         total: amount,
         rate: 0x100f_0e0d,
-    };
+    });
     let guarantee = amount;
     let place = Call::Place { user, guarantee };
     let cession = Cession {

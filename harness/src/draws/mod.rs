@@ -13,7 +13,7 @@ mod requests;
 pub mod shapes;
 
 use reference::calendar::{Span, ThermalYear};
-use reference::register::DAYS_IN_ROW;
+use reference::register::{Opening, DAYS_IN_ROW};
 
 use crate::books::Everyday;
 use crate::calls::{Answer, Call, Field, Step};
@@ -69,7 +69,7 @@ impl Sequence {
         self.busy_month = 1 + self.numbers.below::<u8>(12);
         for _ in 0..2 + self.numbers.below::<u8>(3) {
             let opening = self.good_opening();
-            self.call(opening);
+            self.call(Call::Open(opening));
         }
         let users = [&[0, 5][..], &[20, 63], &[0, 5, 20, 63]];
         for choices in &users[..2 + self.numbers.below::<usize>(2)] {
@@ -100,7 +100,7 @@ impl Sequence {
 
     /// An opening within limits. Most totals are small, so that they are soon used
     /// up.
-    fn good_opening(&mut self) -> Call {
+    fn good_opening(&mut self) -> Opening {
         let numbers = &mut self.numbers;
         let small = 1 + numbers.below::<u64>(30);
         let medium = 1 + numbers.below::<u64>(1_000);
@@ -109,7 +109,7 @@ impl Sequence {
         let (low, high) = (numbers.below(100), numbers.below(1_000_000));
         let rate = numbers.pick(&[low, low, high, 1, 0, 999_999]);
         let kind = numbers.pick(&[1, 2, 2, 2]);
-        Call::Open {
+        Opening {
             point: numbers.below(32),
             kind,
             total,
@@ -121,23 +121,15 @@ impl Sequence {
         let mut opening = self.good_opening();
         let known = self.open_point();
         let numbers = &mut self.numbers;
-        if let Call::Open {
-            point,
-            kind,
-            total,
-            rate,
-        } = &mut opening
-        {
-            match numbers.below::<u8>(12) {
-                0 => *point = numbers.pick(&[32, 33, 64, 255]),
-                1 => *kind = numbers.pick(&[0, 3, 4, 255]),
-                2 => *total = numbers.pick(&[0, MOST_AMOUNT + 1, 1 << 32, 1 << 40, u64::MAX]),
-                3 => *rate = numbers.pick(&[1_000_000, u32::MAX]),
-                4 | 5 => *point = known,
-                _ => {}
-            }
+        match numbers.below::<u8>(12) {
+            0 => opening.point = numbers.pick(&[32, 33, 64, 255]),
+            1 => opening.kind = numbers.pick(&[0, 3, 4, 255]),
+            2 => opening.total = numbers.pick(&[0, MOST_AMOUNT + 1, 1 << 32, 1 << 40, u64::MAX]),
+            3 => opening.rate = numbers.pick(&[1_000_000, u32::MAX]),
+            4 | 5 => opening.point = known,
+            _ => {}
         }
-        self.call(opening);
+        self.call(Call::Open(opening));
     }
 
     /// A guarantee within limits, from ample to tight.
@@ -198,20 +190,16 @@ impl Sequence {
     fn any_field(&mut self) {
         let any = self.numbers.any() >> self.numbers.below::<u32>(64);
         let (mut request, mut cession) = (self.good_request(), self.good_cession());
-        let (point, total, rate) = (self.numbers.below(32), 1, 1);
+        let mut opening = self.good_opening();
         let call = match self.numbers.below::<u8>(9) {
-            0 => Call::Open {
-                point,
-                kind: any as u8,
-                total,
-                rate,
-            },
-            1 => Call::Open {
-                point,
-                kind: 2,
-                total: any,
-                rate,
-            },
+            0 => {
+                opening.kind = any as u8;
+                Call::Open(opening)
+            }
+            1 => {
+                opening.total = any;
+                Call::Open(opening)
+            }
             2 => Call::Place {
                 user: self.user_on_file(),
                 guarantee: any,

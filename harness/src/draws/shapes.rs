@@ -3,7 +3,7 @@
 use std::panic::{self, AssertUnwindSafe};
 
 use reference::calendar::THERMAL_YEARS;
-use reference::register::LEDGER_LINES;
+use reference::register::{Opening, LEDGER_LINES};
 
 use super::{Sequence, MOST_AMOUNT, MOST_GUARANTEE};
 use crate::calls::{Batch, Call, Step};
@@ -112,7 +112,7 @@ impl Sequence {
     fn furnish_for_batches(&mut self) {
         for _ in 0..3 {
             let opening = self.good_opening();
-            self.call(opening);
+            self.call(Call::Open(opening));
         }
         for user in (0..64)
             .filter(|_| self.numbers.in_hundred(25))
@@ -131,12 +131,12 @@ impl Sequence {
         let mut closed = points.filter(|(_, point)| !point.is_open());
         let (point, _) = closed.next().expect("few points are open");
         let total = MOST_AMOUNT - self.numbers.below::<u64>(9_000_000);
-        self.call(Call::Open {
+        self.call(Call::Open(Opening {
             point,
             kind: 2,
             total,
             rate: 0,
-        });
+        }));
         for user in 0..64 {
             self.place(user, MOST_GUARANTEE);
         }

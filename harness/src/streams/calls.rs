@@ -112,17 +112,7 @@ fn recorded(step: &Step) -> runner::Call {
         panic!("{step} is no call");
     };
     match *call {
-        Call::Open {
-            point,
-            kind,
-            total,
-            rate,
-        } => runner::Call::Open {
-            point,
-            kind,
-            total,
-            rate,
-        },
+        Call::Open(opening) => runner::Call::Open(opening),
         Call::Place { user, guarantee } => runner::Call::Place { user, guarantee },
         Call::Request(request) => runner::Call::Request(request),
         Call::Cession(cession) => runner::Call::Cession(cession),

@@ -5,7 +5,7 @@
 
 use reference::calendar::THERMAL_YEARS;
 use reference::cession::{Cession, CESSION_DEADLINE};
-use reference::register::LEDGER_LINES;
+use reference::register::{Opening, LEDGER_LINES};
 use reference::request::{Product, Request, REQUEST_DEADLINE};
 use reference::runner::MOST_RECORDS;
 
@@ -55,12 +55,12 @@ fn start(sequence: &mut Sequence) -> Ring {
     let first = numbers.below::<u8>(60);
     let users: Vec<u8> = (first..first + numbers.pick(&[2, 3, 4])).collect();
     let (requests, month) = (numbers.pick(&[1, 2, 3]), numbers.pick(&[10, 11]));
-    sequence.call(Call::Open {
+    sequence.call(Call::Open(Opening {
         point,
         kind,
         total,
         rate,
-    });
+    }));
     for &user in &users {
         sequence.place(user, MOST_GUARANTEE);
     }

@@ -44,7 +44,7 @@ impl Tally {
 
     fn add_line(&mut self, record: &[u8], (number, amount): Answered) {
         let column = match call_of(record) {
-            Some(Call::Open { .. }) => 0,
+            Some(Call::Open(_)) => 0,
             Some(Call::Place { .. }) => 1,
             Some(Call::Request(request)) => {
                 let is_cut = number == 0 && u64::from(amount) < request.amount;
