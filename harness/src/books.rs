@@ -3,8 +3,10 @@
 
 use reference::batch;
 use reference::calendar::ThermalYear;
+use reference::cession::Cession;
 use reference::register::{
-    self, Lent, Refusal, Register, LEDGER_LENGTH, LEDGER_LINES, NUMBERS_IN_LINE, TABLE_LENGTH,
+    self, Lent, Opening, Refusal, Register, LEDGER_LENGTH, LEDGER_LINES, NUMBERS_IN_LINE,
+    TABLE_LENGTH,
 };
 use reference::request::{Product, Request};
 use ylgrandi::sys;
@@ -18,8 +20,7 @@ pub const SPARE: usize = 8;
 /// which only the lowest byte is looked at is found.
 pub const BATCH_SPACE: usize = 256 + 64;
 
-/// What every number of the lists is before the first step, and every place for
-/// shares and numbers before each batch.
+/// What every number of the lists is before the first step.
 const UNUSED: u8 = 7;
 
 /// The lists of a host, each longer than what is lent of it.
@@ -74,11 +75,14 @@ impl Lists {
         }
     }
 
-    /// What a batch does not write is seen.
+    /// What the places for shares and numbers hold before a batch must not matter,
+    /// and what it does not write is seen: they hold another number for each batch.
     fn prepare(&mut self, call: &Call) {
-        if let Call::Batch(_) = call {
-            self.shares.fill(UNUSED.into());
-            self.numbers.fill(UNUSED);
+        if let Call::Batch(batch) = call {
+            let asked = batch.asked.iter().map(|&asked| asked as u8);
+            let other = asked.fold(UNUSED, u8::wrapping_add);
+            self.shares.fill(other.into());
+            self.numbers.fill(other);
         }
     }
 }
@@ -292,37 +296,27 @@ impl Proved {
         let ledger = &mut lists.ledger[..lists.ledger_lent];
         let answer = match *call {
             Call::Fresh { year } => sys::fresh(year, free, ledger),
-            Call::Open(o) => {
-                let opening = sys::Opening {
-                    point: o.point,
-                    kind: o.kind,
-                    total: o.total,
-                    rate: o.rate,
-                };
-                sys::open_point(r, free, ledger, opening)
-            }
+            Call::Open(opening) => sys::open_point(r, free, ledger, opening_fields(opening)),
             Call::Place { user, guarantee } => {
                 sys::place_guarantee(r, free, ledger, user, guarantee)
             }
             Call::Request(request) => sys::request(r, free, ledger, request_fields(request)),
             Call::OfNoKind(kind, request) => {
-                let fields = request_fields(request);
-                sys::request(r, free, ledger, sys::Request { kind, ..fields })
+                // Month and day are such as might be granted if the kind were taken for theirs.
+                let (month, day) = (12, request.arrival.saturating_add(1));
+                let fields = sys::Request {
+                    kind,
+                    month,
+                    day,
+                    ..request_fields(request)
+                };
+                sys::request(r, free, ledger, fields)
             }
             Call::Batch(ref batch) => {
                 let (shares, numbers) = (&mut lists.shares, &mut lists.numbers);
                 sys::batch(r, free, ledger, batch_fields(batch, shares, numbers))
             }
-            Call::Cession(c) => {
-                let cession = sys::Cession {
-                    giver: c.giver,
-                    receiver: c.receiver,
-                    point: c.point,
-                    arrival: c.arrival,
-                    amount: c.amount,
-                };
-                sys::cession(r, free, ledger, cession)
-            }
+            Call::Cession(cession) => sys::cession(r, free, ledger, cession_fields(cession)),
             Call::Turn { year } => sys::turn_year(r, free, ledger, year),
             Call::Report { .. } | Call::InOrder | Call::ShortDay(_) => return self.ask(call),
         };
@@ -352,6 +346,25 @@ impl Proved {
             }
             _ => of_question_1(sys::in_order(r, free, ledger)),
         }
+    }
+}
+
+fn opening_fields(opening: Opening) -> sys::Opening {
+    sys::Opening {
+        point: opening.point,
+        kind: opening.kind,
+        total: opening.total,
+        rate: opening.rate,
+    }
+}
+
+fn cession_fields(cession: Cession) -> sys::Cession {
+    sys::Cession {
+        giver: cession.giver,
+        receiver: cession.receiver,
+        point: cession.point,
+        arrival: cession.arrival,
+        amount: cession.amount,
     }
 }
 

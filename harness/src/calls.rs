@@ -18,8 +18,8 @@ pub enum Call {
         guarantee: u64,
     },
     Request(Request),
-    /// A request whose kind is none, which a host can pass as a number. Its
-    /// product has no meaning.
+    /// A request whose kind is none, which a host can pass as a number. It is
+    /// annual otherwise.
     OfNoKind(u8, Request),
     Batch(Batch),
     Cession(Cession),

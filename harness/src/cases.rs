@@ -11,6 +11,7 @@ use reference::cession::{Cession, Holding};
 use reference::register::{Opening, DAYS_IN_ROW, NUMBERS_IN_LINE};
 use reference::request::{Product, Request};
 
+use crate::books::Everyday;
 use crate::calls::{Answer, Batch, Call, Field, Step, LINE_PARTS};
 use crate::sides::Sides;
 
@@ -24,8 +25,8 @@ pub enum Case {
     Call(Call, Answer),
     /// A number or a line is written.
     Write(Step),
-    /// Numbers that question 1 finds, in every call and before any other question.
-    /// Then what they were is put back.
+    /// Numbers that question 1 finds, in every call. Then what they were is put
+    /// back.
     Damaged(Vec<Change>),
     /// Numbers that leave the register in order. Then what they were is put back.
     Harmless(Vec<Change>),
@@ -158,13 +159,7 @@ fn read_call(word: &str, rest: &str) -> Result<Call, String> {
         },
         "request" => read_request(&mut words)?,
         "batch" => return read_batch(words).map(Call::Batch),
-        "cession" => Call::Cession(Cession {
-            giver: words.number()?,
-            receiver: words.number()?,
-            point: words.number()?,
-            arrival: words.number()?,
-            amount: words.number()?,
-        }),
+        "cession" => Call::Cession(read_cession(&mut words)?),
         "turn" => Call::Turn {
             year: words.number()?,
         },
@@ -173,13 +168,7 @@ fn read_call(word: &str, rest: &str) -> Result<Call, String> {
             day: words.number()?,
         },
         "in-order" => Call::InOrder,
-        "short-day" => Call::ShortDay(Holding {
-            user: words.number()?,
-            point: words.number()?,
-            first: words.number()?,
-            last: words.number()?,
-            amount: words.number()?,
-        }),
+        "short-day" => Call::ShortDay(read_holding(&mut words)?),
         _ => return Err(format!("`{word}` is no step")),
     };
     words.end()?;
@@ -207,6 +196,26 @@ fn read_request(words: &mut Words) -> Result<Call, String> {
         Some(1..=3) => Err("a kind that has a name".to_string()),
         Some(kind) => Ok(Call::OfNoKind(kind, request)),
     }
+}
+
+fn read_cession(words: &mut Words) -> Result<Cession, String> {
+    Ok(Cession {
+        giver: words.number()?,
+        receiver: words.number()?,
+        point: words.number()?,
+        arrival: words.number()?,
+        amount: words.number()?,
+    })
+}
+
+fn read_holding(words: &mut Words) -> Result<Holding, String> {
+    Ok(Holding {
+        user: words.number()?,
+        point: words.number()?,
+        first: words.number()?,
+        last: words.number()?,
+        amount: words.number()?,
+    })
 }
 
 fn read_batch(mut words: Words) -> Result<Batch, String> {
@@ -299,34 +308,41 @@ fn read_change(words: &mut Words) -> Result<Change, String> {
     Ok((field, value))
 }
 
-/// Runs a case on both sides: the calls that were made and their answers. Where a
-/// side is not as the case says, or the sides differ, that is said.
-pub fn run(sides: &mut Sides, case: &Case) -> Result<Vec<(Call, Answer)>, String> {
+/// Runs a case on both sides; each call that is made is shown with its answer.
+/// Where a side is not as the case says, or the sides differ, that is said.
+pub fn run(sides: &mut Sides, case: &Case, seen: &mut impl Seen) -> Result<(), String> {
     match case {
         Case::Call(call, expected) => {
-            let answer = ask(sides, call)?;
+            let answer = ask(sides, call, seen)?;
             if answer != *expected {
                 return Err(format!("answered {}", answer_text(call, &answer)));
             }
-            Ok(vec![(call.clone(), answer)])
+            Ok(())
         }
-        Case::Write(step) => sides.run(step).map(|_| Vec::new()),
+        Case::Write(step) => sides.run(step).map(|_| ()),
         Case::Damaged(changes) => {
             let calls = every_call(sides.everyday.register.year);
-            altered(sides, changes, &calls, |number| number == 1)
+            altered(sides, changes, &calls, |number| number == 1, seen)
         }
         Case::Harmless(changes) => {
             let calls = every_call(sides.everyday.register.year);
             let questions = calls.iter().filter(|call| !call.is_changing());
             let questions: Vec<Call> = questions.cloned().collect();
-            altered(sides, changes, &questions, |number| number != 1)
+            altered(sides, changes, &questions, |number| number != 1, seen)
         }
     }
 }
 
-fn ask(sides: &mut Sides, call: &Call) -> Result<Answer, String> {
+/// Whoever is shown a call with its answer, and the books as they are after it.
+pub trait Seen: FnMut(&Call, &Answer, &mut Everyday) {}
+
+impl<F: FnMut(&Call, &Answer, &mut Everyday)> Seen for F {}
+
+fn ask(sides: &mut Sides, call: &Call, seen: &mut impl Seen) -> Result<Answer, String> {
     let answer = sides.run(&Step::Call(call.clone()))?;
-    answer.ok_or("a call has an answer".to_string())
+    let answer = answer.ok_or("a call has an answer")?;
+    seen(call, &answer, &mut sides.everyday);
+    Ok(answer)
 }
 
 /// Makes calls while numbers are altered; each answer must be of that kind. What
@@ -336,8 +352,8 @@ fn altered(
     changes: &[Change],
     calls: &[Call],
     is_right: impl Fn(u8) -> bool,
-) -> Result<Vec<(Call, Answer)>, String> {
-    let mut made = Vec::new();
+    seen: &mut impl Seen,
+) -> Result<(), String> {
     let usual: Vec<Change> = changes
         .iter()
         .map(|&(field, _)| (field, sides.everyday.get(field)))
@@ -346,17 +362,16 @@ fn altered(
         sides.run(&Step::Set(field, value))?;
     }
     for call in calls {
-        let answer = ask(sides, call)?;
+        let answer = ask(sides, call, seen)?;
         if !is_right(answer.number) {
             return Err(format!("{call} is answered {}", answer_text(call, &answer)));
         }
-        made.push((call.clone(), answer));
     }
     for &(field, value) in usual.iter().rev() {
         sides.run(&Step::Set(field, value))?;
     }
-    match ask(sides, &Call::InOrder)?.number {
-        0 => Ok(made),
+    match ask(sides, &Call::InOrder, seen)?.number {
+        0 => Ok(()),
         _ => Err("not in order when what was altered is put back".to_string()),
     }
 }

@@ -1,44 +1,48 @@
 //! A list of steps that fails, cut down to a short one and told as lines of a case.
 
+use std::cell::Cell;
 use std::panic::{self, AssertUnwindSafe};
 
 use crate::books::Everyday;
 use crate::calls::Step;
 use crate::cases::line;
 
-/// How a list fails: at which place, and what is said of it.
-pub type Failure = (usize, String);
+thread_local! {
+    /// While a list is cut down its panics are of no interest; those of other tests are.
+    static IS_QUIET: Cell<bool> = const { Cell::new(false) };
+}
 
 /// Runs a list, and where it fails cuts it down before it is shown. A panic is a
 /// failure too.
 pub fn expect_all(
     origin: &str,
     steps: &[Step],
-    mut run: impl FnMut(&[Step]) -> Result<(), Failure>,
+    mut run: impl FnMut(&[Step]) -> Result<(), String>,
 ) {
     if failure(steps, &mut run).is_none() {
         return;
     }
-    let quiet = panic::take_hook();
-    panic::set_hook(Box::new(|_| {}));
+    let usual = panic::take_hook();
+    panic::set_hook(Box::new(move |panic| {
+        if !IS_QUIET.get() {
+            usual(panic);
+        }
+    }));
+    IS_QUIET.set(true);
     let steps = shortest(steps, |steps| failure(steps, &mut run).is_some());
-    let told = failure(&steps, &mut run);
+    let difference = failure(&steps, &mut run).unwrap_or_default();
     let lines = told_as_case(&steps);
-    panic::set_hook(quiet);
-    let (_, difference) = told.unwrap_or_default();
+    IS_QUIET.set(false);
     panic!(
         "{origin}: {difference}\ncut down to {} steps:\n{lines}",
         steps.len()
     );
 }
 
-fn failure(
-    steps: &[Step],
-    run: &mut impl FnMut(&[Step]) -> Result<(), Failure>,
-) -> Option<Failure> {
+fn failure(steps: &[Step], run: &mut impl FnMut(&[Step]) -> Result<(), String>) -> Option<String> {
     match panic::catch_unwind(AssertUnwindSafe(|| run(steps))) {
         Ok(result) => result.err(),
-        Err(_) => Some((0, "a panic".to_string())),
+        Err(_) => Some("a panic".to_string()),
     }
 }
 

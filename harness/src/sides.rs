@@ -76,8 +76,13 @@ impl Sides {
         }
         let everyday = self.everyday.with(proved_register);
         let mut pairs = named(&self.proved).into_iter().zip(named(&everyday));
-        let ((name, proved), (_, everyday)) = pairs.find(|(one, two)| one != two)?;
-        Some(format!("{name}: proved {proved}, everyday {everyday}"))
+        let differing = pairs.find(|(one, two)| one != two);
+        Some(match differing {
+            Some(((name, proved), (_, everyday))) => {
+                format!("{name}: proved {proved}, everyday {everyday}")
+            }
+            None => "a number without a name differs".to_string(),
+        })
     }
 }
 

@@ -4,6 +4,8 @@
 use std::fs;
 use std::path::{Path, PathBuf};
 
+use harness::books::Everyday;
+use harness::calls::{Answer, Call, Step};
 use harness::cases::{self, Case};
 use harness::sides::Sides;
 use harness::tally::Tally;
@@ -33,12 +35,12 @@ fn each_case_is_answered_as_it_says() {
     let mut tally = Tally::default();
     for (file, cases) in cases() {
         let mut sides = Sides::default();
+        let mut seen = |call: &Call, answer: &Answer, books: &mut Everyday| {
+            tally.add(call, answer, books);
+        };
         for (number, case) in cases {
-            match cases::run(&mut sides, &case) {
-                Ok(made) => made
-                    .iter()
-                    .for_each(|(call, answer)| tally.add(call, answer, &mut sides.everyday)),
-                Err(error) => panic!("{}:{number}: {error}", file.display()),
+            if let Err(error) = cases::run(&mut sides, &case, &mut seen) {
+                panic!("{}:{number}: {error}", file.display());
             }
         }
     }
@@ -51,9 +53,7 @@ fn a_step_that_is_told_is_read_again() {
     for (_, cases) in cases() {
         for (number, case) in cases {
             let told = match &case {
-                Case::Call(call, answer) => {
-                    cases::line(&harness::calls::Step::Call(call.clone()), Some(answer))
-                }
+                Case::Call(call, answer) => cases::line(&Step::Call(call.clone()), Some(answer)),
                 Case::Write(step) => cases::line(step, None),
                 Case::Damaged(_) | Case::Harmless(_) => continue,
             };

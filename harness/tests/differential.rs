@@ -6,11 +6,13 @@
 //! every run. One that fails is cut down and told as lines of a case.
 
 use std::env;
+use std::panic;
 
 use harness::calls::{Answer, Batch, Call, Field, Step};
+use harness::cases::{self, Case};
 use harness::draws::damages::{fields, most_of};
 use harness::draws::{narrow, shapes, MOST_AMOUNT};
-use harness::shrink::{expect_all, shortest, Failure};
+use harness::shrink::{expect_all, shortest};
 use harness::sides::Sides;
 use harness::tally::Tally;
 use reference::calendar::{Date, ThermalYear, THERMAL_YEARS};
@@ -30,11 +32,10 @@ fn sequences() -> u64 {
 }
 
 /// Runs steps from a host without a register.
-fn run_all(steps: &[Step], tally: &mut Tally) -> Result<(), Failure> {
+fn run_all(steps: &[Step], tally: &mut Tally) -> Result<(), String> {
     let mut sides = Sides::default();
-    for (place, step) in steps.iter().enumerate() {
-        let answer = sides.run(step).map_err(|difference| (place, difference))?;
-        if let (Step::Call(call), Some(answer)) = (step, answer) {
+    for step in steps {
+        if let (Step::Call(call), Some(answer)) = (step, sides.run(step)?) {
             tally.add(call, &answer, &mut sides.everyday);
         }
     }
@@ -49,8 +50,9 @@ fn random_sequences_are_answered_alike() {
         let run = |steps: &[Step]| run_all(steps, &mut tally);
         expect_all(&format!("seed {seed}"), &steps, run);
     }
-    if sequences() >= SEQUENCES {
-        tally.expect(LEAST, |_, _| true);
+    let is_whole = sequences() >= SEQUENCES;
+    tally.expect(LEAST, |_, _| is_whole);
+    if is_whole {
         tally.expect_years();
     }
 }
@@ -174,11 +176,11 @@ fn calls_arriving(arrival: u16, month: u8, day: u16) -> [Call; 4] {
     ]
 }
 
-/// Annual requests, requests for the next month and cessions in the second half of
-/// each month of each year, where all deadlines are.
+/// Annual requests, requests for the next month, for the year's last day and cessions
+/// in the second half of each month of each year, where all deadlines are.
 #[test]
 fn the_deadlines_of_every_month_are_alike() {
-    let mut found = [0; 16];
+    let mut found = [[0; 16]; 4];
     for year in THERMAL_YEARS {
         let mut sides = year_without_guarantees(year);
         let (first, last) = narrow(&thermal(year).arrivals());
@@ -186,14 +188,21 @@ fn the_deadlines_of_every_month_are_alike() {
             let date = Date::from_day_number(arrival.into()).expect("a date");
             let next_month = (date.month() + 3) % 12 + 1;
             if date.day() >= 14 {
-                for call in calls_arriving(arrival, next_month, last) {
+                for (call, found) in calls_arriving(arrival, next_month, last)
+                    .into_iter()
+                    .zip(&mut found)
+                {
                     found[usize::from(ask(&mut sides, call))] += 1;
                 }
             }
         }
     }
-    for number in [8, 9, 10, 11] {
-        assert!(found[number] > 2_000, "{number}: {found:?}");
+    let wanted: [&[usize]; 4] = [&[8, 9, 11], &[9, 11], &[11], &[8, 9, 10]];
+    for (found, wanted) in found.iter().zip(wanted) {
+        assert!(
+            wanted.iter().all(|&number| found[number] > 1_000),
+            "{found:?}"
+        );
     }
 }
 
@@ -215,56 +224,57 @@ fn arrivals_around_a_year_are_alike() {
     }
 }
 
-/// Each byte as point, user, kind and month, in a register in order and in one with
-/// too many lines.
+/// Calls that have a byte as point, user, kind or month.
+fn calls_with(byte: u8) -> Vec<Call> {
+    let (good, given) = (request(Product::Annual, 8_689), cession(8_689));
+    let of_no_kind = (!(1..=3).contains(&byte)).then_some(Call::OfNoKind(byte, good));
+    let calls = [
+        Call::Request(Request { user: byte, ..good }),
+        Call::Request(Request {
+            point: byte,
+            ..good
+        }),
+        Call::Request(request(Product::Month(byte), 8_658)),
+        Call::Cession(Cession {
+            giver: byte,
+            ..given
+        }),
+        Call::Cession(Cession {
+            receiver: byte,
+            ..given
+        }),
+        Call::Cession(Cession {
+            point: byte,
+            ..given
+        }),
+        Call::Cession(Cession {
+            giver: byte,
+            receiver: byte,
+            ..given
+        }),
+        Call::Batch(Batch::new(byte, vec![0], vec![1])),
+        Call::Batch(Batch::new(0, vec![byte], vec![1])),
+        Call::Report {
+            point: byte,
+            day: 8_689,
+        },
+    ];
+    calls.into_iter().chain(of_no_kind).collect()
+}
+
+/// Each byte as such a field, in a register in order and in one with too many lines.
 #[test]
 fn every_byte_of_a_field_is_taken_alike() {
     let mut sides = year_without_guarantees(2023);
+    let too_many = LEDGER_LINES as u64 + 1;
     for byte in 0..=u8::MAX {
-        let good = request(Product::Annual, 8_689);
-        let given = cession(8_689);
-        let mut calls = vec![
-            Call::Request(Request { user: byte, ..good }),
-            Call::Request(Request {
-                point: byte,
-                ..good
-            }),
-            Call::Request(request(Product::Month(byte), 8_658)),
-            Call::Cession(Cession {
-                giver: byte,
-                ..given
-            }),
-            Call::Cession(Cession {
-                receiver: byte,
-                ..given
-            }),
-            Call::Cession(Cession {
-                point: byte,
-                ..given
-            }),
-            Call::Cession(Cession {
-                giver: byte,
-                receiver: byte,
-                ..given
-            }),
-            Call::Batch(Batch::new(byte, vec![0], vec![1])),
-            Call::Batch(Batch::new(0, vec![byte], vec![1])),
-            Call::Report {
-                point: byte,
-                day: 8_689,
-            },
-        ];
-        if !(1..=3).contains(&byte) {
-            calls.push(Call::OfNoKind(byte, good));
-        }
-        for (lines, numbers) in [(0, 0..=11), (LEDGER_LINES as u64 + 1, 1..=1)] {
+        for (lines, numbers) in [(too_many, 1..=1), (0, 0..=11)] {
             run(&mut sides, &Step::Set(Field::Lines, lines));
-            for call in &calls {
+            for call in calls_with(byte) {
                 let number = ask(&mut sides, call.clone());
                 assert!(numbers.contains(&number), "{call}: {number}");
             }
         }
-        run(&mut sides, &Step::Set(Field::Lines, 0));
     }
 }
 
@@ -309,17 +319,10 @@ fn each_short_day_is_named() {
 /// So many numbers more, and 16 bits of a length look right.
 const MORE: usize = 1 << 16;
 
-#[test]
-fn lengths_are_seen_whole() {
-    let mut sides = Sides::default();
-    for lists in [&mut sides.proved.lists, &mut sides.everyday.lists] {
-        lists.free.resize(TABLE_LENGTH + MORE, 3);
-        lists.ledger.resize(LEDGER_LENGTH + MORE, 3);
-        lists.shares.resize(64 + MORE, 3);
-        lists.numbers.resize(64 + MORE, 3);
-    }
+/// Calls that make a register, and batches of one line and of too many.
+fn calls_of_long_lists() -> [Call; 7] {
     let batch = |lines: usize| Call::Batch(Batch::new(0, vec![5; lines], vec![1; lines]));
-    let calls = [
+    [
         Call::Fresh { year: 2023 },
         Call::Open(Opening {
             point: 0,
@@ -335,7 +338,18 @@ fn lengths_are_seen_whole() {
         batch(MORE + 1),
         batch(MORE + 64),
         Call::InOrder,
-    ];
+    ]
+}
+
+#[test]
+fn lengths_are_seen_whole() {
+    let mut sides = Sides::default();
+    for lists in [&mut sides.proved.lists, &mut sides.everyday.lists] {
+        lists.free.resize(TABLE_LENGTH + MORE, 3);
+        lists.ledger.resize(LEDGER_LENGTH + MORE, 3);
+        lists.shares.resize(64 + MORE, 3);
+        lists.numbers.resize(64 + MORE, 3);
+    }
     let refused = [2, 1, 1, 1, 1, 1, 1];
     for (table, ledger, expected) in [
         (0, 0, [0, 0, 0, 0, 2, 2, 0]),
@@ -346,24 +360,60 @@ fn lengths_are_seen_whole() {
         let ledger = (LEDGER_LENGTH + ledger) as u64;
         run(&mut sides, &Step::Set(Field::TableLength, table));
         run(&mut sides, &Step::Set(Field::LedgerLength, ledger));
-        let numbers = calls.each_ref().map(|call| ask(&mut sides, call.clone()));
+        let numbers = calls_of_long_lists().map(|call| ask(&mut sides, call));
         assert_eq!(numbers, expected, "{table} {ledger}");
     }
 }
 
-/// Of a long list that fails by two of its steps these two are left.
-#[test]
-fn a_failing_list_is_cut_down() {
-    let steps = shapes::steps(2);
+/// A list that fails by two of its steps, an opening and a later batch.
+fn fails(steps: &[Step]) -> bool {
     let is_opening = |step: &Step| matches!(step, Step::Call(Call::Open(_)));
     let is_batch = |step: &Step| matches!(step, Step::Call(Call::Batch(_)));
-    let fails = |steps: &[Step]| {
-        let opened = steps.iter().position(is_opening);
-        let conferred = steps.iter().rposition(is_batch);
-        opened
-            .zip(conferred)
-            .is_some_and(|(first, last)| first < last)
-    };
+    let opened = steps.iter().position(is_opening);
+    let conferred = steps.iter().rposition(is_batch);
+    opened
+        .zip(conferred)
+        .is_some_and(|(first, last)| first < last)
+}
+
+/// Of a long list these two are left, and told as lines of a case.
+#[test]
+fn a_failing_list_is_cut_down_and_told() {
+    let steps = shapes::steps(2);
     let short = shortest(&steps, fails);
     assert!(steps.len() > 60 && short.len() == 2 && fails(&short));
+    let run = |steps: &[Step]| match fails(steps) {
+        true => Err("it fails".to_string()),
+        false => Ok(()),
+    };
+    let told = panic::catch_unwind(|| expect_all("a list", &steps, run)).expect_err("it fails");
+    let told = told.downcast_ref::<String>().expect("a text");
+    let (head, lines) = told.split_once("steps:\n").expect("a head");
+    assert_eq!(head, "a list: it fails\ncut down to 2 ");
+    assert_eq!(calls_in(lines), short);
+}
+
+/// The calls that lines of a case say.
+fn calls_in(lines: &str) -> Vec<Step> {
+    let cases = cases::read(lines).expect("cases").into_iter();
+    let step = |(_, case)| match case {
+        Case::Call(call, _) => Step::Call(call),
+        Case::Write(step) => step,
+        _ => panic!("{case:?}"),
+    };
+    cases.map(step).collect()
+}
+
+/// Every step that is drawn can be told and read again.
+#[test]
+fn drawn_steps_are_told_and_read_again() {
+    for seed in 0..40 {
+        let steps = shapes::steps(seed);
+        let answer = Answer::default();
+        let lines: Vec<String> = steps
+            .iter()
+            .map(|step| cases::line(step, Some(&answer)))
+            .collect();
+        assert_eq!(calls_in(&lines.join("\n")), steps, "seed {seed}");
+    }
 }

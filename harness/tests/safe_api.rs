@@ -5,7 +5,7 @@
 use harness::books::{proved_register, Everyday};
 use harness::calls::{Answer, Batch, Call, Step};
 use harness::draws::shapes;
-use harness::shrink::{expect_all, Failure};
+use harness::shrink::expect_all;
 use harness::tally::Tally;
 use reference::calendar::{Date, ThermalYear};
 use reference::register::{DAYS_IN_ROW, LEDGER_LENGTH, TABLE_LENGTH};
@@ -102,10 +102,10 @@ fn confer(register: &mut Register, batch: &Batch) -> Option<Given> {
 
 /// Runs calls on both sides. Before the first fresh register there is none to call; one
 /// that is refused leaves the register that there is.
-fn run_all(steps: &[Step], tally: &mut Tally) -> Result<(), Failure> {
+fn run_all(steps: &[Step], tally: &mut Tally) -> Result<(), String> {
     let mut register: Option<Register> = None;
     let mut books = Everyday::default();
-    for (place, step) in steps.iter().enumerate() {
+    for step in steps {
         let Step::Call(made) = step else {
             panic!("{step} is no call");
         };
@@ -114,7 +114,7 @@ fn run_all(steps: &[Step], tally: &mut Tally) -> Result<(), Failure> {
             let expected = result_of(fresh.run(made).number, 0);
             let given = Register::fresh(year);
             if given.as_ref().map(|_| 0).map_err(|&refusal| refusal) != expected {
-                return Err((place, format!("fresh gives {given:?}, not {expected:?}")));
+                return Err(format!("fresh gives {given:?}, not {expected:?}"));
             }
             if let Ok(given) = given {
                 (register, books) = (Some(given), fresh);
@@ -126,12 +126,12 @@ fn run_all(steps: &[Step], tally: &mut Tally) -> Result<(), Failure> {
                 tally.add(made, &answer, &mut books);
                 let expected = given_by(made, &answer);
                 if given != expected || given.is_err() && *register != before {
-                    return Err((place, format!("gives {given:?}, not {expected:?}")));
+                    return Err(format!("gives {given:?}, not {expected:?}"));
                 }
             }
         }
         if let Some(register) = &register {
-            shows_alike(register, &books).map_err(|what| (place, what))?;
+            shows_alike(register, &books)?;
         }
     }
     Ok(())

@@ -13,7 +13,7 @@ use std::ops::RangeInclusive;
 use crate::calendar::{Span, ThermalYear};
 use crate::register::{
     amount_within_limits, day_count, ensure, Lent, Line, Point, Refusal, Register, ANNUAL, DAY,
-    DIRECT, LEDGER_LINES, MONTH,
+    DIRECT, MONTH,
 };
 
 /// The working day by which annual and monthly requests arrive. Document 01,
@@ -103,6 +103,7 @@ impl Register {
         ensure(is_in_time, Refusal::Late)?;
 
         let days = day_count(&span);
+        let has_line_left = self.has_lines_left(1);
         let account = &mut self.accounts[usize::from(request.user)];
         ensure(
             account.covers(point.charge(asked, days)),
@@ -111,7 +112,7 @@ impl Register {
         let amounts = lent.amounts(&year, request.point, &span);
         let least = amounts.iter().copied().min().unwrap_or(0);
         ensure(least > 0, Refusal::NothingFree)?;
-        ensure(self.lines < LEDGER_LINES as u16, Refusal::LedgerFull)?;
+        ensure(has_line_left, Refusal::LedgerFull)?;
 
         let granted = asked.min(least);
         for amount in amounts {

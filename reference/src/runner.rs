@@ -22,7 +22,7 @@ pub const MOST_RECORDS: usize = 2_000;
 pub const MOST_BYTES: usize = RECORD_LENGTH * MOST_RECORDS;
 
 /// The year of the fresh register.
-const FIRST_YEAR: u16 = 2000;
+pub const FIRST_YEAR: u16 = 2000;
 
 /// The number of what is no call.
 const NO_CALL: u8 = 2;

@@ -13,7 +13,9 @@ mod requests;
 pub mod shapes;
 
 use reference::calendar::{Span, ThermalYear};
+use reference::cession::Cession;
 use reference::register::{Opening, DAYS_IN_ROW};
+use reference::request::Request;
 
 use crate::books::Everyday;
 use crate::calls::{Answer, Call, Field, Step};
@@ -189,44 +191,41 @@ impl Sequence {
     /// A call one field of which is any number that its width holds.
     fn any_field(&mut self) {
         let any = self.numbers.any() >> self.numbers.below::<u32>(64);
-        let (mut request, mut cession) = (self.good_request(), self.good_cession());
-        let mut opening = self.good_opening();
-        let call = match self.numbers.below::<u8>(9) {
-            0 => {
-                opening.kind = any as u8;
-                Call::Open(opening)
-            }
-            1 => {
-                opening.total = any;
-                Call::Open(opening)
-            }
-            2 => Call::Place {
-                user: self.user_on_file(),
+        let (opening, user, point) = (self.good_opening(), self.user_on_file(), self.open_point());
+        let (request, cession) = (self.good_request(), self.good_cession());
+        let (kind, rate, day) = (any as u8, any as u32, any as u16);
+        let calls = [
+            Call::Open(Opening { kind, ..opening }),
+            Call::Open(Opening { rate, ..opening }),
+            Call::Open(Opening {
+                total: any,
+                ..opening
+            }),
+            Call::Place {
+                user,
                 guarantee: any,
             },
-            3 => {
-                request.amount = any;
-                Call::Request(request)
-            }
-            4 => {
-                request.arrival = any as u16;
-                Call::Request(request)
-            }
-            5 => {
-                cession.amount = any;
-                Call::Cession(cession)
-            }
-            6 => {
-                cession.arrival = any as u16;
-                Call::Cession(cession)
-            }
-            7 => Call::Turn { year: any as u16 },
-            _ => Call::Report {
-                point: self.open_point(),
-                day: any as u16,
-            },
-        };
-        self.call(call);
+            Call::Request(Request {
+                amount: any,
+                ..request
+            }),
+            Call::Request(Request {
+                arrival: day,
+                ..request
+            }),
+            Call::Cession(Cession {
+                amount: any,
+                ..cession
+            }),
+            Call::Cession(Cession {
+                arrival: day,
+                ..cession
+            }),
+            Call::Turn { year: day },
+            Call::Report { point, day },
+        ];
+        let call = &calls[self.numbers.below::<usize>(calls.len() as u64)];
+        self.call(call.clone());
     }
 
     /// A point, open if one is.

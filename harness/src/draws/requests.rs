@@ -25,8 +25,9 @@ impl Sequence {
     pub(super) fn request_of_no_kind(&mut self) {
         let any: u8 = 4 + self.numbers.below::<u8>(252);
         let kind = self.numbers.pick(&[0, 4, 5, 128, 255, any]);
-        let request = self.good_request();
-        self.call(Call::OfNoKind(kind, request));
+        let product = Product::Annual;
+        let good = self.good_request();
+        self.call(Call::OfNoKind(kind, Request { product, ..good }));
     }
 
     fn span_of(&self, request: &Request) -> Option<Span> {

@@ -1,14 +1,11 @@
 //! Streams of calls, drawn as those of all sequences are.
 
 use reference::calendar::THERMAL_YEARS;
-use reference::runner::{self, record_of, Record};
+use reference::runner::{self, record_of, Record, FIRST_YEAR};
 
 use crate::calls::{Call, Step};
 use crate::draws::Sequence;
 use crate::numbers::Generator;
-
-/// The year of the register that the first record meets.
-const FIRST_YEAR: u16 = 2000;
 
 /// Letters that name no call: some come close to one.
 const UNKNOWN_LETTERS: [u8; 12] = *b"pgrcyBQFXZ\x00\xff";
