@@ -1,5 +1,7 @@
 //! The calendar against published dates and the cases of document 01.
 
+use std::collections::BTreeSet;
+
 use reference::calendar::*;
 
 /// Published dates of Easter Sunday, 2000 to 2099, one a line.
@@ -133,6 +135,23 @@ fn holidays_are_no_working_days() {
     for holiday in holidays {
         assert!(!is_working_day(holiday), "{holiday}");
     }
+}
+
+/// Dates of the year that are a working day in no year.
+#[test]
+fn no_other_date_is_a_fixed_holiday() {
+    let date_of_year = |date: Date| (date.month(), date.day());
+    let working = all_dates().filter(|&date| is_working_day(date));
+    let working: BTreeSet<(u8, u8)> = working.map(date_of_year).collect();
+    let never: BTreeSet<(u8, u8)> = all_dates()
+        .map(date_of_year)
+        .filter(|date| !working.contains(date))
+        .collect();
+    let winter = [(1, 1), (1, 6), (11, 1), (12, 8), (12, 25), (12, 26)];
+    let summer = [(4, 25), (5, 1), (6, 2), (8, 15)];
+    assert!(never
+        .into_iter()
+        .eq(BTreeSet::from_iter(winter.into_iter().chain(summer))));
 }
 
 #[test]
