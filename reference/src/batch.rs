@@ -33,23 +33,47 @@ pub struct Batch<'a> {
     pub numbers: &'a mut [u8],
 }
 
+impl Batch<'_> {
+    /// Writes the shares of the lines that have passed so far, of the smallest free
+    /// amount and the sum of what they ask for. Question 12 asks that none is 0.
+    fn share_out(&mut self, least: u32, sum: u64) {
+        let lines = self.asked.iter().zip(&mut *self.numbers);
+        for ((&asked, number), share) in lines.zip(&mut *self.shares) {
+            *share = match *number {
+                0 => pro_quota(asked, least, sum),
+                _ => 0,
+            };
+            if *number == 0 && *share == 0 {
+                *number = Refusal::NothingFree.number();
+            }
+        }
+    }
+}
+
+/// Document 01: if S is at most F each gets what it asked, else asked × F / S rounded
+/// down.
+fn pro_quota(asked: u64, least: u32, sum: u64) -> u32 {
+    let least = u64::from(least);
+    let share = if sum <= least {
+        asked
+    } else {
+        asked * least / sum
+    };
+    u32::try_from(share).expect("no more than what was asked")
+}
+
 impl Register {
     /// Shares out the smallest free amount of the year. All shares together are
     /// taken from each day, the charge of each joins its user's commitment, and
     /// each has a line, annual from 1 October.
-    pub fn confer(&mut self, lent: &mut Lent, batch: Batch) -> Result<(), Refusal> {
+    pub fn confer(&mut self, lent: &mut Lent, mut batch: Batch) -> Result<(), Refusal> {
         let year = self.year_in_order(lent)?;
         let point = self.admit_batch(&batch)?;
         let amounts = lent.amounts(&year, batch.point, &year.days());
         let least = amounts.iter().copied().min().unwrap_or(0);
+        let sum = self.ask_lines(&point, year.day_count(), &mut batch);
+        batch.share_out(least, sum);
 
-        let passed = self.ask_lines(&point, year.day_count(), &batch);
-        let sum = passed.iter().flatten().map(|&asked| u64::from(asked)).sum();
-        for (line, asked) in passed.iter().enumerate() {
-            let share = asked.and_then(|asked| pro_quota(asked, least, sum));
-            batch.shares[line] = share.unwrap_or(0);
-            batch.numbers[line] = share.map_or_else(Refusal::number, |_| 0);
-        }
         let taken: u32 = batch.shares.iter().sum();
         for amount in amounts {
             *amount -= taken;
@@ -71,23 +95,28 @@ impl Register {
         Ok(*point)
     }
 
-    /// Questions 2, 14, 5 and 11: the asked amount of each line that passes.
-    fn ask_lines(&self, point: &Point, days: usize, batch: &Batch) -> Vec<Result<u32, Refusal>> {
+    /// Puts questions 2, 14, 5 and 11 to each line, and writes its number: the sum of
+    /// the asked amounts of the lines that pass.
+    fn ask_lines(&self, point: &Point, days: usize, batch: &mut Batch) -> u64 {
         let mut is_named = [false; USERS];
+        let mut ask = |user: usize, asked: u64| {
+            let account = self.accounts.get(user).ok_or(Refusal::OutOfLimits)?;
+            let was_named = mem::replace(&mut is_named[user], true);
+            let amount = amount_within_limits(asked)?;
+            ensure(!was_named, Refusal::UserRepeated)?;
+            ensure(account.is_on_file(), Refusal::NotOnFile)?;
+            let is_covered = account.covers(point.charge(amount, days));
+            ensure(is_covered, Refusal::NotCovered)?;
+            Ok(asked)
+        };
+        let mut sum = 0;
         let lines = batch.users.iter().zip(batch.asked);
-        lines
-            .map(|(&user, &asked)| {
-                let user = usize::from(user);
-                let account = self.accounts.get(user).ok_or(Refusal::OutOfLimits)?;
-                let was_named = mem::replace(&mut is_named[user], true);
-                let asked = amount_within_limits(asked)?;
-                ensure(!was_named, Refusal::UserRepeated)?;
-                ensure(account.is_on_file(), Refusal::NotOnFile)?;
-                let is_covered = account.covers(point.charge(asked, days));
-                ensure(is_covered, Refusal::NotCovered)?;
-                Ok(asked)
-            })
-            .collect()
+        for ((&user, &asked), number) in lines.zip(&mut *batch.numbers) {
+            let passed = ask(user.into(), asked);
+            *number = passed.map_or_else(Refusal::number, |_| 0);
+            sum += passed.unwrap_or(0);
+        }
+        sum
     }
 
     /// Charges the shares above 0 and writes their lines.
@@ -112,17 +141,4 @@ impl Register {
             self.write_line(ledger, line);
         }
     }
-}
-
-/// The share of a line. Document 01: if S is at most F each gets what it asked,
-/// else asked × F / S rounded down. Question 12 asks that it is not 0.
-fn pro_quota(asked: u32, least: u32, sum: u64) -> Result<u32, Refusal> {
-    let least = u64::from(least);
-    let share = if sum <= least {
-        asked
-    } else {
-        (u64::from(asked) * least / sum) as u32
-    };
-    ensure(share > 0, Refusal::NothingFree)?;
-    Ok(share)
 }

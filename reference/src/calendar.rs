@@ -227,8 +227,8 @@ pub fn nth_working_day(year: u16, month: u8, n: usize) -> Option<Date> {
     working_days(year, month)?.nth(n.checked_sub(1)?)
 }
 
-/// The September before a thermal year and its twelve months.
-const MONTHS: usize = 13;
+/// How many months a thermal year has.
+const MONTHS: usize = 12;
 
 /// A thermal year. Document 01: thermal year Y runs from 1 October Y to 30
 /// September Y+1; month 1 of it is October, month 12 September. What arrives
@@ -236,8 +236,11 @@ const MONTHS: usize = 13;
 #[derive(Debug, Clone, Copy, PartialEq, Eq)]
 pub struct ThermalYear {
     year: u16,
-    /// The first gas-day of each month, and of the one after the last.
-    firsts: [u32; MONTHS + 1],
+    /// 1 September before it.
+    september: u32,
+    month_firsts: [u32; MONTHS],
+    /// The day after its last.
+    end: u32,
 }
 
 impl ThermalYear {
@@ -247,70 +250,83 @@ impl ThermalYear {
         if !THERMAL_YEARS.contains(&year) {
             return None;
         }
-        let mut next = Date::new(year, 9, 1)?.day_number();
-        let firsts = array::from_fn(|month| {
-            let first = next;
+        let september = Date::new(year, 9, 1)?.day_number();
+        let after = |first: u32, month: u8| {
             let (year, month) = calendar_month(year, month);
-            next += u32::from(days_in_month(year, month).unwrap_or(0));
+            first + u32::from(days_in_month(year, month).unwrap_or(0))
+        };
+        let mut end = after(september, 0);
+        let month_firsts = array::from_fn(|place| {
+            let first = end;
+            end = after(first, place as u8 + 1);
             first
         });
-        Some(ThermalYear { year, firsts })
+        Some(ThermalYear {
+            year,
+            september,
+            month_firsts,
+            end,
+        })
     }
 
     /// 1 October to 30 September.
     pub fn days(&self) -> Span {
-        self.firsts[1]..=self.firsts[MONTHS] - 1
+        self.month_firsts[0]..=self.end - 1
     }
 
     /// How many days it has, 365 or 366.
     pub fn day_count(&self) -> usize {
-        (self.firsts[MONTHS] - self.firsts[1]) as usize
+        (self.end - self.month_firsts[0]) as usize
     }
 
     /// The days of a month, 1 to 12.
     pub fn month(&self, month: u8) -> Option<Span> {
-        let place = usize::from(month);
-        let is_month = (1..MONTHS).contains(&place);
-        is_month.then(|| self.firsts[place]..=self.firsts[place + 1] - 1)
+        let place = usize::from(month).checked_sub(1)?;
+        let first = self.month_firsts.get(place)?;
+        let next = self.month_firsts.get(place + 1).unwrap_or(&self.end);
+        Some(*first..=next - 1)
     }
 
     /// The first days of its months, October's first.
-    pub fn month_firsts(&self) -> &[u32] {
-        &self.firsts[1..MONTHS]
+    pub fn month_firsts(&self) -> &[u32; MONTHS] {
+        &self.month_firsts
     }
 
     /// The days on which a call may arrive. Document 01, question 8: from 1
     /// September Y to 30 September Y+1.
     pub fn arrivals(&self) -> Span {
-        self.firsts[0]..=self.firsts[MONTHS] - 1
+        self.september..=self.end - 1
     }
 
     /// The month in which a call arrives, if it may.
     pub fn arrival_month(&self, day: u32) -> Option<u8> {
-        let begun = self.firsts.partition_point(|&first| first <= day);
-        (1..=MONTHS).contains(&begun).then(|| begun as u8 - 1)
+        let begun = self.month_firsts.partition_point(|&first| first <= day);
+        self.arrivals().contains(&day).then_some(begun as u8)
     }
 
     /// From the first of the month after arrival to the year's end; `None` where
     /// nothing may arrive or no day is left.
     pub fn rest_after(&self, arrival: u32) -> Option<Span> {
-        let next = self.arrival_month(arrival)? + 1;
-        Some(*self.month(next)?.start()..=*self.days().end())
+        let month = self.arrival_month(arrival)?;
+        let next = self.month_firsts.get(usize::from(month))?;
+        Some(*next..=self.end - 1)
     }
 
     /// The `n`-th working day of a month, 0 to 12. Document 01, question 9: the
     /// deadlines are such days, and the day itself is in time.
     pub fn working_day(&self, month: u8, n: usize) -> Option<u32> {
-        if usize::from(month) >= MONTHS {
+        if usize::from(month) > MONTHS {
             return None;
         }
-        let (year, month) = calendar_month(self.year, month.into());
+        let (year, month) = calendar_month(self.year, month);
         nth_working_day(year, month, n).map(Date::day_number)
     }
 }
 
-/// Year and month of the calendar of a month of a thermal year.
-fn calendar_month(year: u16, month: usize) -> (u16, u8) {
-    const OF_YEAR: [u8; MONTHS + 1] = [9, 10, 11, 12, 1, 2, 3, 4, 5, 6, 7, 8, 9, 10];
-    (year + u16::from(month > 3), OF_YEAR[month])
+/// Year and month of the calendar of a month of a thermal year, 0 to 12.
+fn calendar_month(year: u16, month: u8) -> (u16, u8) {
+    match month {
+        0..=3 => (year, month + 9),
+        _ => (year + 1, month - 3),
+    }
 }
