@@ -281,7 +281,9 @@ struct ylgrandi_answer ylgrandi_place_guarantee(
  *   3   the point is not open
  *   5   the user is not on file
  *   7   the kind is not offered: direct points take annual requests only
- *   8   the arrival or the span lies outside the year, or no day is left of it
+ *   8   the arrival lies before 1 September Y or after 30 September Y+1; or the
+ *       gas-day (kind 3) lies outside the year; or an annual request arrives in
+ *       September Y+1, which leaves no day of the year
  *   9   not in time. Annual: by the 11th working day of the arrival month.
  *       Monthly: by the 11th working day of the preceding month. Daily: before
  *       the gas-day
@@ -430,12 +432,14 @@ struct ylgrandi_report ylgrandi_report(
 uint8_t ylgrandi_next_day(struct ylgrandi_date *date);
 
 /*
- * Question 1: is the register in order, with these lists? That is: table length,
- * Y, line count, totals, rates and guarantees within their limits, each free
- * amount at most its total, zeros where document 01 names them, each commitment
- * at most its guarantee, users not on file at 0, each line with a user on file,
- * an open point, a kind, a first day in the year (a month's first for a month
- * line) and an amount other than 0 within 9,999,999 either way.
+ * Question 1: is the register in order, with these lists? That is: free_count is
+ * YLGRANDI_TABLE and ledger_count is YLGRANDI_LEDGER, whatever the number of lines
+ * used; Y, the number of lines, totals, rates and guarantees within their limits,
+ * each free amount at most its total, zeros where document 01 names them, each
+ * commitment at most its guarantee, users not on file at 0, each line with a user
+ * on file, an open point, a kind, a first day in the year (a month's first for a
+ * month line) and an amount other than 0 within 9,999,999 either way. Numbers of
+ * the ledger behind the lines used may be anything.
  *
  * Answers true or false. It alters nothing: both lists are only read. Every call
  * asks this by itself, so nobody needs to ask it beforehand.
@@ -450,8 +454,12 @@ bool ylgrandi_in_order(
  * less than the amount. Held is the sum of his ledger lines at the point there.
  *
  * year, lines: those of the register.
- * ledger: it is only read. In a register that is not in order a line counts only
- *   where it begins in the year, and no line after the 2,048th.
+ * ledger: it is only read. It is not asked whether the register is in order. Where
+ *   it is not, a line counts only where it begins in the year, so none in a year
+ *   out of limits, and no line counts after the 2,048th. A line of an unknown kind
+ *   counts as a day line, on its first day. With a smaller ledger_count than lines
+ *   needs, the lines that are not there whole count nothing; with a greater one
+ *   nothing behind the lines is read.
  * h.user, h.point: any. In a register in order nothing is held by a user, or at a
  *   point, that there is not.
  * h.first, h.last: any days; if the first is after the last there is nothing to

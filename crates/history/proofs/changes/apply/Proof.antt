@@ -23,87 +23,66 @@ use Rattle.requests.proofs.request_capacity.Reads as request-capacity-reads
 abbrev before : tie.Start → State
 before c = state (c .args .r) (c .args .free .now) (c .args .ledger .now)
 
--- src/changes.rt:111:27
 enum-known-change : tie.Need-enum-known-change
 enum-known-change c = search needs
 
--- src/changes.rt:111:47
 open-point-requires : tie.Need-open-point-requires
 open-point-requires c κs = search needs
 
--- src/changes.rt:111:33
 applied-filed-requires : tie.Need-applied-filed-requires
 applied-filed-requires c κs = search needs
 
--- src/changes.rt:120:32
 enum-known-change-2 : tie.Need-enum-known-change-2
 enum-known-change-2 c = search needs
 
--- src/changes.rt:120:52
 place-guarantee-requires : tie.Need-place-guarantee-requires
 place-guarantee-requires c κs = search needs
 
--- src/changes.rt:120:38
 applied-filed-requires-2 : tie.Need-applied-filed-requires-2
 applied-filed-requires-2 c κs = search needs
 
--- src/changes.rt:127:33
 enum-known-change-3 : tie.Need-enum-known-change-3
 enum-known-change-3 c = search needs
 
--- src/changes.rt:128:31
 request-capacity-requires : tie.Need-request-capacity-requires
 request-capacity-requires c κs = search needs
 
--- src/changes.rt:128:13
 applied-conferred-requires : tie.Need-applied-conferred-requires
 applied-conferred-requires c κs = search needs
 
--- src/changes.rt:130:29
 enum-known-change-4 : tie.Need-enum-known-change-4
 enum-known-change-4 c = search needs
 
--- src/changes.rt:130:53
 confer-batch-requires : tie.Need-confer-batch-requires
 confer-batch-requires c κs = search needs
 
--- src/changes.rt:130:39
 applied-filed-requires-3 : tie.Need-applied-filed-requires-3
 applied-filed-requires-3 c κs = search needs
 
--- src/changes.rt:140:30
 enum-known-change-5 : tie.Need-enum-known-change-5
 enum-known-change-5 c = search needs
 
--- src/changes.rt:140:50
 cede-capacity-requires : tie.Need-cede-capacity-requires
 cede-capacity-requires c κs = search needs
 
--- src/changes.rt:140:36
 applied-ceded-requires : tie.Need-applied-ceded-requires
 applied-ceded-requires c κs = search needs
 
--- src/changes.rt:141:26
 enum-known-change-6 : tie.Need-enum-known-change-6
 enum-known-change-6 c = search needs
 
--- src/changes.rt:141:49
 turn-year-requires : tie.Need-turn-year-requires
 turn-year-requires c κs = search needs
 
--- src/changes.rt:141:35
 applied-filed-requires-4 : tie.Need-applied-filed-requires-4
 applied-filed-requires-4 c κs = search needs
 
--- src/changes.rt:94:1
 same-length : tie.Need-same-length
 same-length c = search needs
 
--- src/changes.rt:94:1
 same-length-2 : tie.Need-same-length-2
 same-length-2 c = search needs
 
--- src/changes.rt:94:1
 returns : tie.Need-returns
 returns c =
     let st = c .before .before .before .before .before .before .before .before .before .before .before .before .before .before .before in
@@ -113,15 +92,12 @@ returns c =
     found (before st) (st .args .change) (OpenPoint (known .0 .0)) (st .args .users .now) (st .args .asked .now) (st .args .shares .now) (st .args .numbers .now) _ _ _ _ _ (known .1)
     (told .0 ∙ done .0, (told .1 .0, (register-now _ _ _ _ _ (told .1 .1) (done .1), (refl, refl))))
 
--- src/changes.rt:94:1
 same-length-3 : tie.Need-same-length-3
 same-length-3 c = search needs
 
--- src/changes.rt:94:1
 same-length-4 : tie.Need-same-length-4
 same-length-4 c = search needs
 
--- src/changes.rt:94:1
 returns-2 : tie.Need-returns-2
 returns-2 c =
     let st = c .before .before .before .before .before .before .before .before .before .before .before .before .before in
@@ -131,15 +107,12 @@ returns-2 c =
     found (before st) (st .args .change) (PlaceGuarantee (known .0 .0)) (st .args .users .now) (st .args .asked .now) (st .args .shares .now) (st .args .numbers .now) _ _ _ _ _ (known .1)
     (told .0 ∙ done .0, (told .1 .0, (register-now _ _ _ _ _ (told .1 .1) (done .1), (refl, refl))))
 
--- src/changes.rt:94:1
 same-length-5 : tie.Need-same-length-5
 same-length-5 c = search needs
 
--- src/changes.rt:94:1
 same-length-6 : tie.Need-same-length-6
 same-length-6 c = search needs
 
--- src/changes.rt:94:1
 returns-3 : tie.Need-returns-3
 returns-3 c =
     let st = c .before .before .before .before .before .before .before .before .before .before .before .before .before .before .before .before .before in
@@ -149,23 +122,18 @@ returns-3 c =
     found (before st) (st .args .change) (RequestCapacity (known .0 .0)) (st .args .users .now) (st .args .asked .now) (st .args .shares .now) (st .args .numbers .now) _ _ _ _ _ (known .1)
     (told .0 ∙ done .0, (told .1 .0 ∙ done .1 .0, (register-now _ _ _ _ _ (told .1 .1) (done .1 .1), (refl, refl))))
 
--- src/changes.rt:94:1
 same-length-7 : tie.Need-same-length-7
 same-length-7 c = search needs
 
--- src/changes.rt:94:1
 same-length-8 : tie.Need-same-length-8
 same-length-8 c = search needs
 
--- src/changes.rt:94:1
 same-length-9 : tie.Need-same-length-9
 same-length-9 c = search needs
 
--- src/changes.rt:94:1
 same-length-10 : tie.Need-same-length-10
 same-length-10 c = search needs
 
--- src/changes.rt:94:1
 returns-4 : tie.Need-returns-4
 returns-4 c =
     let st = c .before .before .before .before .before .before .before .before .before .before .before .before .before .before .before .before .before .before .before .before .before .before .before in
@@ -176,15 +144,12 @@ returns-4 c =
     found (before st) (st .args .change) (ConferBatch (known .0 .0)) (st .args .users .now) (st .args .asked .now) (st .args .shares .now) (st .args .numbers .now) _ _ _ _ _ (known .1)
     (told .0 ∙ done .0, (told .1 .0, (register-now _ _ _ _ _ (told .1 .1) (done .1 .0), (shares-as (before st) b (st .args .shares .now) (st .args .numbers .now) _ (done .1 .1 .0), numbers-as (before st) b (st .args .shares .now) (st .args .numbers .now) _ (done .1 .1 .1)))))
 
--- src/changes.rt:94:1
 same-length-11 : tie.Need-same-length-11
 same-length-11 c = search needs
 
--- src/changes.rt:94:1
 same-length-12 : tie.Need-same-length-12
 same-length-12 c = search needs
 
--- src/changes.rt:94:1
 returns-5 : tie.Need-returns-5
 returns-5 c =
     let st = c .before .before .before .before .before .before .before .before .before .before .before .before .before .before .before .before .before in
@@ -194,15 +159,12 @@ returns-5 c =
     found (before st) (st .args .change) (CedeCapacity (known .0 .0)) (st .args .users .now) (st .args .asked .now) (st .args .shares .now) (st .args .numbers .now) _ _ _ _ _ (known .1)
     (told .0 ∙ done .0, (told .1 .0 ∙ done .1 .0, (register-now _ _ _ _ _ (told .1 .1) (done .1 .1), (refl, refl))))
 
--- src/changes.rt:94:1
 same-length-13 : tie.Need-same-length-13
 same-length-13 c = search needs
 
--- src/changes.rt:94:1
 same-length-14 : tie.Need-same-length-14
 same-length-14 c = search needs
 
--- src/changes.rt:94:1
 returns-6 : tie.Need-returns-6
 returns-6 c =
     let st = c .before .before .before .before .before .before .before .before .before .before .before .before .before .before .before .before .before in
