@@ -3,9 +3,9 @@
 use Prim.Native.Nat.{ℕ}
 use mathlib.Core.Bool.{cond}
 use lib.Dec.{eqb}
-use Rattle.requests.specs.declared.products.Product.{Product}
-use Rattle.requests.specs.declared.products.Product.the-variants.{Annual, Month, Day}
-use Rattle.requests.specs.declared.products.Request.{Request}
+use Rattle.products.specs.declared.products.Product.{Product}
+use Rattle.products.specs.declared.products.Product.the-variants.{Annual, Month, Day}
+use Rattle.products.specs.declared.products.Request.{Request}
 
 -- "1 annual, 2 month, 3 day". Question 2 asks for "kinds" too: another kind is the month 0, which that question refuses, in its turn
 unfoldable pub productOf : ℕ → ℕ → ℕ → Product

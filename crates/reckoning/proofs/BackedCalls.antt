@@ -10,7 +10,7 @@ use Rattle.parts.specs.Registers.{State}
 use Rattle.register.specs.Fresh.{freshState}
 use Rattle.register.specs.Sound.{Sound}
 use Rattle.register.proofs.FreshKept.{fresh-sound}
-use Rattle.reckoning.specs.Calls.{Call, openPoint, placeGuarantee, requestCapacity, conferBatch, cedeCapacity, turnYear, answer, after, afterAll, registerAfter}
+use Rattle.reckoning.specs.Calls.{Call, openPoint, placeGuarantee, requestCapacity, conferBatch, cedeCapacity, turnYear, answer, after, afterAll}
 use Rattle.reckoning.proofs.CallLaws.{unaltered, call-sound}
 use Rattle.reckoning.proofs.Backing.{Backed, backed-fresh}
 use Rattle.reckoning.proofs.BackingSteps.{backed-open, backed-place, backed-turn, backed-request, backed-batch, backed-cession}
@@ -37,5 +37,5 @@ list-kept : (s : State) (cs : List Call) → Sound s → Backed s → Sound (aft
 list-kept s [] sound k = (sound, k)
 list-kept s (c ∷ cs) sound k = list-kept (after s c) cs (call-sound s c sound) (backed-call s c sound k)
 
-pub list-backed : (y : ℕ) → isThermalYear y ≡ true → (cs : List Call) → Backed (registerAfter y cs)
+pub list-backed : (y : ℕ) → isThermalYear y ≡ true → (cs : List Call) → Backed (afterAll (freshState y) cs)
 list-backed y h cs = list-kept (freshState y) cs (fresh-sound y h) (backed-fresh y h) .1

@@ -41,8 +41,9 @@ use Rattle.conferral.proofs.RoomLaws.{LimitFacts}
 use Rattle.conferral.proofs.BookedLaws.{Bookable, BookedIn, booked-in}
 use Rattle.holdings.specs.Holdings.{signedSum, isHis, coversDay, partOf, partAt, heldOn}
 use Rattle.holdings.proofs.SumLaws.{sum-more, sum-same}
-use Rattle.requests.specs.declared.products.Request.{Request}
-use Rattle.requests.specs.RequestCapacity.{grantOf as grantRequested, requestNumber, requestAmount, requestAfter}
+use Rattle.products.specs.declared.products.Request.{Request}
+use Rattle.request_decision.specs.RequestQuestions.{grantOf as grantRequested}
+use Rattle.requests.specs.RequestCapacity.{requestNumber, requestAmount, requestAfter}
 use Rattle.requests.proofs.AnswerLaws.{granted-room, accepted-amount}
 use Rattle.requests.proofs.ConferredLaws.{request-booked}
 use Rattle.batches.specs.Batches.{Batch, linesOf, grantOf}

@@ -20,7 +20,7 @@ use Rattle.amounts.proofs.RangeLaws.{sum-same}
 use Rattle.batches.specs.Batches.{Batch, linesOf, userOf, askedOf, chargeAsked, lineQuestions, lineNumber}
 use Rattle.batches.specs.Shares.{freeOfYear, countedAt, sumAsked, proQuota, shareOf, numberIf, numberOfLine, listOf}
 use Rattle.batches.specs.ConferBatch.{batchQuestions, batchNumber, sharesOf, numbersOf}
-use Rattle.batches.proofs.AnswerLaws.{answered-passes, passes-answered, facts, accepted-after, refused-after}
+use Rattle.batches.proofs.AnswerLaws.{answered-passes, passes-answered, facts, refused-after}
 use Rattle.batches.proofs.ShareLaws.{line-facts, share-sum, free-of-year-le, free-of-year-is, list-at, list-length}
 use Rattle.batches.proofs.RefusalLaws.{refused-by, ledger-full, line-refused-by, line-repeated, line-not-covered, line-nothing-free, line-answered}
 use Rattle.reckoning.specs.Calls.{Answer, conferBatch, answer}
@@ -28,6 +28,7 @@ use Rattle.reckoning.specs.Reckoning.{Reckoning}
 use Rattle.reckoning.specs.Reasons.{FairShares, linePassed, askedIfPassed, lineCharge, LineGrounds, BatchGrounds, Uncovered, oneOf, LineReasons}
 use Rattle.reckoning.specs.Demand3.{Treated}
 use Rattle.reckoning.proofs.Agreement.{Agree}
+use Rattle.reckoning.proofs.CallLaws.{answered, altered}
 use Rattle.reckoning.proofs.NumberLaws.{among, among-lines}
 use Rattle.reckoning.proofs.AgreedLaws.{never-disordered, open-by, day-by, charge-by, covered, uncovered, unfiled, lines-left, lines-short, free-by}
 
@@ -182,8 +183,8 @@ module _ (s : State) (b : Batch) (m n : ℕ) where
     unfolding batchNumber
     batch-treated =
         record {
-          accepted = (answered-passes s b m n, passes-answered s b m n);
-          does = accepted-after s b m n;
+          accepted = answered s (conferBatch b m n);
+          does = altered s (conferBatch b m n);
           refused = λ r. (sym (refused-after s b m n r), (refl, (leaves-old (batchNumber s b m n) (sharesOf s b) [] r, leaves-old (batchNumber s b m n) (numbersOf s b) [] r)));
           rule = λ h. (F, (S, fair-shares (passes-answered s b m n h)));
           grounds = batch-grounds;

@@ -10,13 +10,14 @@ use Rattle.parts.specs.Accounts.{isOnFile}
 use Rattle.spans.specs.Spans.{annualFirst, annualLast, spanOk}
 use Rattle.cessions.specs.declared.ceding.Cession.{Cession}
 use Rattle.cessions.specs.CedeCapacity.{giverOf, receiverOf, bothOnFile, isInYear, chargeOf, cessionQuestions, cessionNumber}
-use Rattle.cessions.proofs.AnswerLaws.{answered-passes, passes-answered, facts, accepted-amount, accepted-after, refused-amount, refused-after}
+use Rattle.cessions.proofs.AnswerLaws.{answered-passes, passes-answered, facts, accepted-amount, refused-amount, refused-after}
 use Rattle.cessions.proofs.RefusalLaws.{refused-by, not-covered, ledger-full}
 use Rattle.reckoning.specs.Calls.{cedeCapacity, answer}
 use Rattle.reckoning.specs.Reckoning.{Reckoning, cededCharge}
 use Rattle.reckoning.specs.Reasons.{CessionGrounds}
 use Rattle.reckoning.specs.Demand3.{Treated}
 use Rattle.reckoning.proofs.Agreement.{Agree}
+use Rattle.reckoning.proofs.CallLaws.{answered, altered}
 use Rattle.reckoning.proofs.NumberLaws.{among}
 use Rattle.reckoning.proofs.Backing.{Backed, never-below}
 use Rattle.reckoning.proofs.AgreedLaws.{open-by, charge-ceded, covered, uncovered, unfiled, lines-left, lines-short}
@@ -51,8 +52,8 @@ module _ (s : State) (k : Reckoning) (w : Agree s k) (backed : Backed s) (c : Ce
   unfolding cessionNumber
   cession-treated =
       record {
-        accepted = (answered-passes s c, passes-answered s c);
-        does = accepted-after s c;
+        accepted = answered s (cedeCapacity c);
+        does = altered s (cedeCapacity c);
         refused = λ n. (sym (refused-after s c n), (sym (refused-amount s c n), (refl, refl)));
         rule = λ h. accepted-amount s c (passes-answered s c h);
         grounds = cession-grounds;

@@ -6,11 +6,11 @@ use Prim.Native.Nat.{ℕ}
 use native.Mathlib.Omega.{arith}
 use borrow.Author.Tests.{leb-true, leb-false, ltb-true, ltb-false, not-true, not-false}
 use Rattle.parts.specs.Registers.{State, accountAt}
-use Rattle.parts.proofs.AnswerLaws.{passes, passed, leaves-new}
+use Rattle.parts.proofs.AnswerLaws.{passes}
 use Rattle.parts.proofs.QuestionLaws.{refused-at}
-use Rattle.filing.specs.OpenPoint.{openQuestions, openNumber, opened, openAfter}
-use Rattle.filing.specs.PlaceGuarantee.{placeQuestions, placeNumber, placed, placeAfter}
-use Rattle.turning.specs.TurnYear.{turnQuestions, turnNumber, turned, turnAfter}
+use Rattle.filing.specs.OpenPoint.{openQuestions, openNumber, openAfter}
+use Rattle.filing.specs.PlaceGuarantee.{placeQuestions, placeNumber, placeAfter}
+use Rattle.turning.specs.TurnYear.{turnQuestions, turnNumber, turnAfter}
 use Rattle.filing.proofs.OpenLaws.{open-old}
 use Rattle.filing.proofs.PlaceLaws.{place-old}
 use Rattle.turning.proofs.TurnLaws.{turn-old}
@@ -18,6 +18,7 @@ use Rattle.reckoning.specs.Calls.{openPoint, placeGuarantee, turnYear, a
 use Rattle.reckoning.specs.Reckoning.{Reckoning}
 use Rattle.reckoning.specs.Demand3.{Treated}
 use Rattle.reckoning.proofs.Agreement.{Agree}
+use Rattle.reckoning.proofs.CallLaws.{answered, altered}
 use Rattle.reckoning.proofs.NumberLaws.{among}
 use Rattle.reckoning.proofs.AgreedLaws.{never-disordered, open-by}
 
@@ -27,8 +28,8 @@ module _ (s : State) (k : Reckoning) (w : Agree s k) where
   open-treated p kind total rate =
       let qs = openQuestions s p kind total rate in
       record {
-        accepted = (passes qs refl, passed qs);
-        does = leaves-new (openNumber s p kind total rate) (opened s p kind total rate) s;
+        accepted = answered s (openPoint p kind total rate);
+        does = altered s (openPoint p kind total rate);
         refused = λ n. (sym (open-old s p kind total rate n), (refl, (refl, refl)));
         rule = λ h. refl;
         grounds = λ z. let a = passes qs refl z in record { two = a .1 .0; four = open-by s k w p false (not-true _ (a .1 .1 .0)) };
@@ -46,8 +47,8 @@ module _ (s : State) (k : Reckoning) (w : Agree s k) where
   place-treated u g =
       let qs = placeQuestions s u g in
       record {
-        accepted = (passes qs refl, passed qs);
-        does = leaves-new (placeNumber s u g) (placed s u g) s;
+        accepted = answered s (placeGuarantee u g);
+        does = altered s (placeGuarantee u g);
         refused = λ n. (sym (place-old s u g n), (refl, (refl, refl)));
         rule = λ h. refl;
         grounds = λ z. let a = passes qs refl z in record { two = a .1 .0; six = omega (arith, leb-true (accountAt (s .register .accounts) u .commitment) g (a .1 .1 .0), w .balance u) };
@@ -65,8 +66,8 @@ module _ (s : State) (k : Reckoning) (w : Agree s k) where
   turn-treated y =
       let qs = turnQuestions s y in
       record {
-        accepted = (passes qs refl, passed qs);
-        does = leaves-new (turnNumber s y) (turned s y) s;
+        accepted = answered s (turnYear y);
+        does = altered s (turnYear y);
         refused = λ n. (sym (turn-old s y n), (refl, (refl, refl)));
         rule = λ h. refl;
         grounds = λ z. let a = passes qs refl z in record { two = a .1 .0; fifteen = omega (arith, ltb-true (s .register .year) y (a .1 .1 .0), w .year) };

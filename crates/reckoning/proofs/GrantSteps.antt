@@ -19,9 +19,10 @@ use Rattle.parts.specs.Charges.{charge}
 use Rattle.conferral.specs.declared.bookings.Grant.{Grant}
 use Rattle.conferral.specs.Bookings.{daysOf, chargeOf}
 use Rattle.conferral.proofs.BookedLaws.{BookedIn}
-use Rattle.requests.specs.declared.products.Request.{Request}
-use Rattle.requests.specs.Products.{firstOf, lastOf}
-use Rattle.requests.specs.RequestCapacity.{grantOf, requestNumber, requestAmount, requestAfter}
+use Rattle.products.specs.declared.products.Request.{Request}
+use Rattle.products.specs.Products.{firstOf, lastOf}
+use Rattle.request_decision.specs.RequestQuestions.{grantOf}
+use Rattle.requests.specs.RequestCapacity.{requestNumber, requestAmount, requestAfter}
 use Rattle.requests.proofs.AnswerLaws.{facts}
 use Rattle.requests.proofs.ConferredLaws.{request-booked}
 use Rattle.reckoning.specs.Calls.{requestCapacity, answer}

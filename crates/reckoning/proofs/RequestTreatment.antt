@@ -8,13 +8,13 @@ use Rattle.parts.specs.Registers.{State}
 use Rattle.amounts.specs.Amounts.{spanDays, freeOn}
 use Rattle.parts.specs.Points.{isOpen}
 use Rattle.amounts.proofs.CalendarLaws.{day-in}
-use Rattle.conferral.specs.Bookings.{booked}
 use Rattle.spans.proofs.SpanLaws.{span-facts}
-use Rattle.requests.specs.declared.products.Product.{Product}
-use Rattle.requests.specs.declared.products.Request.{Request}
-use Rattle.requests.specs.Products.{firstOf, lastOf, isOffered, isInYear, isInTime}
-use Rattle.requests.specs.RequestCapacity.{spanFirst, spanLast, pointOf, chargeAsked, grantOf, requestQuestions, requestNumber, requestAmount}
-use Rattle.requests.proofs.AnswerLaws.{answered-passes, passes-answered, facts, accepted-amount, accepted-after, refused-amount, refused-after}
+use Rattle.products.specs.declared.products.Product.{Product}
+use Rattle.products.specs.declared.products.Request.{Request}
+use Rattle.products.specs.Products.{firstOf, lastOf, isOffered, isInYear, isInTime}
+use Rattle.request_decision.specs.RequestQuestions.{spanFirst, spanLast, pointOf, chargeAsked, requestQuestions}
+use Rattle.requests.specs.RequestCapacity.{requestNumber, requestAmount}
+use Rattle.requests.proofs.AnswerLaws.{answered-passes, passes-answered, facts, refused-amount, refused-after}
 use Rattle.requests.proofs.RefusalLaws.{refused-by, not-covered, nothing-free, ledger-full}
 use Rattle.requests.proofs.ConferredLaws.{granted-some, granted-least, cut-due}
 use Rattle.reckoning.specs.Calls.{requestCapacity, answer}
@@ -22,6 +22,7 @@ use Rattle.reckoning.specs.Reckoning.{Reckoning}
 use Rattle.reckoning.specs.Reasons.{InSpan, freeFor, Fair, RequestGrounds, NothingFree, requestCharge}
 use Rattle.reckoning.specs.Demand3.{Treated}
 use Rattle.reckoning.proofs.Agreement.{Agree}
+use Rattle.reckoning.proofs.CallLaws.{answered, altered}
 use Rattle.reckoning.proofs.NumberLaws.{among}
 use Rattle.reckoning.proofs.AgreedLaws.{never-disordered, open-by, charge-by, covered, uncovered, unfiled, lines-left, lines-short, free-by}
 
@@ -112,8 +113,8 @@ module _ (s : State) (k : Reckoning) (w : Agree s k) (q : Request) where
   unfolding requestNumber
   request-treated =
       record {
-        accepted = (answered-passes s q, passes-answered s q);
-        does = λ z. accepted-after s q z ∙ ap (λ (n : ℕ). booked s (grantOf (s .register) q n)) (accepted-amount s q z);
+        accepted = answered s (requestCapacity q);
+        does = altered s (requestCapacity q);
         refused = λ n. (sym (refused-after s q n), (sym (refused-amount s q n), (refl, refl)));
         rule = λ h. fair (passes-answered s q h);
         grounds = request-grounds;

@@ -9,8 +9,9 @@ use Rattle.filing.specs.OpenPoint.{openQuestions, openNumber, opened, openAfter
 use Rattle.filing.specs.PlaceGuarantee.{placeQuestions, placeNumber, placed, placeAfter}
 use Rattle.turning.specs.TurnYear.{turnQuestions, turnNumber, turned, turnAfter}
 use Rattle.conferral.specs.Bookings.{booked}
-use Rattle.requests.specs.declared.products.Request.{Request}
-use Rattle.requests.specs.RequestCapacity.{grantOf, amountGranted, requestQuestions, requestNumber, requestAmount, requestAfter}
+use Rattle.products.specs.declared.products.Request.{Request}
+use Rattle.request_decision.specs.RequestQuestions.{grantOf, amountGranted, requestQuestions}
+use Rattle.requests.specs.RequestCapacity.{requestNumber, requestAmount, requestAfter}
 use Rattle.batches.specs.Batches.{Batch, linesOf}
 use Rattle.batches.specs.ConferBatch.{batchQuestions, batchNumber, bookedLines, sharesOf, numbersOf, batchAfter}
 use Rattle.cessions.specs.declared.ceding.Cession.{Cession}

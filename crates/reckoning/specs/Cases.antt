@@ -9,9 +9,9 @@ use Rattle.working_days.specs.WorkingDays.{easterSunday, workingCount, nthOfMon
 use Rattle.parts.specs.Registers.{State}
 use Rattle.amounts.specs.Amounts.{spanDays}
 use Rattle.parts.specs.Charges.{charge}
-use Rattle.requests.specs.declared.products.Product.the-variants.{Annual}
-use Rattle.requests.specs.declared.products.Request.{Request}
-use Rattle.requests.specs.Products.{firstOf}
+use Rattle.products.specs.declared.products.Product.the-variants.{Annual}
+use Rattle.products.specs.declared.products.Request.{Request}
+use Rattle.products.specs.Products.{firstOf}
 use Rattle.batches.specs.Batches.{Batch, batch}
 use Rattle.batches.specs.Shares.{freeOfYear}
 use Rattle.reckoning.specs.Calls.{Call, openPoint, placeGuarantee, requestCapacity, conferBatch, answer, registerAfter}

@@ -15,10 +15,10 @@ use Rattle.parts.specs.Charges.{charge}
 use Rattle.filing.specs.OpenPoint.{openFields}
 use Rattle.filing.specs.PlaceGuarantee.{placeFields}
 use Rattle.spans.specs.Spans.{annualFirst, annualLast, spanOk}
-use Rattle.requests.specs.declared.products.Product.the-variants.{Annual}
-use Rattle.requests.specs.declared.products.Request.{Request}
-use Rattle.requests.specs.Products.{isInYear, isInTime}
-use Rattle.requests.specs.RequestCapacity.{requestFields}
+use Rattle.products.specs.declared.products.Product.the-variants.{Annual}
+use Rattle.products.specs.declared.products.Request.{Request}
+use Rattle.products.specs.Products.{isInYear, isInTime}
+use Rattle.request_decision.specs.RequestQuestions.{requestFields}
 use Rattle.batches.specs.Batches.{Batch, linesOf, userOf, askedOf, lineFields}
 use Rattle.batches.specs.Shares.{proQuota}
 use Rattle.batches.specs.ConferBatch.{batchFields}

@@ -12,8 +12,8 @@ use Rattle.parts.specs.Charges.{charge}
 use Rattle.parts.specs.Answers.{leaves}
 use Rattle.register.specs.Fresh.{freshState}
 use Rattle.spans.specs.Spans.{annualFirst, annualLast}
-use Rattle.requests.specs.declared.products.Request.{Request}
-use Rattle.requests.specs.Products.{firstOf, lastOf}
+use Rattle.products.specs.declared.products.Request.{Request}
+use Rattle.products.specs.Products.{firstOf, lastOf}
 use Rattle.batches.specs.Batches.{linesOf}
 use Rattle.cessions.specs.declared.ceding.Cession.{Cession}
 use Rattle.reckoning.specs.Calls.{Call, openPoint, placeGuarantee, requestCapacity, conferBatch, cedeCapacity, turnYear, Answer, answers}

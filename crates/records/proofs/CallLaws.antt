@@ -6,7 +6,7 @@ use mathlib.Core.List.{List, [], _∷_}
 use lib.ListN.{getD}
 use native.Mathlib.Omega.{arith}
 use borrow.Author.Tests.{ne-eqb}
-use Rattle.requests.specs.declared.products.Product.the-variants.{Annual, Month, Day}
+use Rattle.products.specs.declared.products.Product.the-variants.{Annual, Month, Day}
 use Rattle.records.specs.declared.decoding.Decoded.the-variants.{NoCall}
 use Rattle.records.specs.Records.{littleEndian, numberAt, letterOf, kindOf, monthOf, dayOf, openingIn, guaranteeIn, requestFor, requestIn, cessionIn, turnIn, callIn}
 

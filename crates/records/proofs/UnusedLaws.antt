@@ -9,8 +9,8 @@ use lib.ListN.{length, getD, set, length-set}
 use lib.Seq.{getD-set-other}
 use borrow.Author.Tests.{eqb-true, eqb-false}
 use Rattle.days.proofs.Ranges.{and-left, and-right}
-use Rattle.requests.specs.declared.products.Product.{Product}
-use Rattle.requests.specs.declared.products.Product.the-variants.{Annual, Month, Day}
+use Rattle.products.specs.declared.products.Product.{Product}
+use Rattle.products.specs.declared.products.Product.the-variants.{Annual, Month, Day}
 use Rattle.records.specs.declared.decoding.Decoded.{Decoded}
 use Rattle.records.specs.declared.decoding.Decoded.the-variants.{NoCall}
 use Rattle.records.specs.Records.{recordLength, numberAt, letterOf, kindOf, monthOf, dayOf, openingIn, guaranteeIn, requestFor, requestIn, cessionIn, turnIn, callIn, decoded, requestUses, letterUses, isRead}

@@ -6,8 +6,8 @@ use mathlib.Core.List.{List, [], _∷_}
 use lib.Dec.{eqb, ltb}
 use lib.ListN.{length, getD}
 use Rattle.days.specs.Days.{between}
-use Rattle.requests.specs.declared.products.Product.{Product}
-use Rattle.requests.specs.declared.products.Product.the-variants.{Annual, Month, Day}
+use Rattle.products.specs.declared.products.Product.{Product}
+use Rattle.products.specs.declared.products.Product.the-variants.{Annual, Month, Day}
 use Rattle.history.specs.declared.changes.Change.the-variants.{OpenPoint, PlaceGuarantee, RequestCapacity, CedeCapacity, TurnYear}
 use Rattle.records.specs.declared.decoding.Decoded.{Decoded}
 use Rattle.records.specs.declared.decoding.Decoded.the-variants.{IsCall, NoCall}

@@ -17,12 +17,13 @@ use Rattle.parts.proofs.AnswerLaws.{passes, passed, refusal-number, leaves-new,
 use Rattle.conferral.specs.declared.bookings.Grant.{Grant}
 use Rattle.conferral.specs.Bookings.{chargeOf, booked, hasRoom, bookAfter}
 use Rattle.conferral.proofs.RoomLaws.{Room, has-room}
-use Rattle.requests.specs.declared.products.Request.{Request}
-use Rattle.requests.specs.declared.requesting.Decision.the-variants.{Confer, Refuse}
-use Rattle.requests.specs.Products.{isOffered, isInYear, isInTime}
-use Rattle.requests.specs.RequestCapacity.{daysAsked, spanPlace, pointOf, accountOf, chargeAsked, freeThroughout, requestQuestions, requestNumber, amountGranted, requestAmount, grantOf, requestAfter}
-use Rattle.requests.specs.Steps.{Decides}
-use Rattle.requests.proofs.RequestLaws.{FieldFacts, fields, grant-limits, granted-free}
+use Rattle.products.specs.declared.products.Request.{Request}
+use Rattle.request_decision.specs.declared.deciding.Decision.the-variants.{Confer, Refuse}
+use Rattle.products.specs.Products.{isOffered, isInYear, isInTime}
+use Rattle.request_decision.specs.RequestQuestions.{daysAsked, spanPlace, pointOf, accountOf, chargeAsked, freeThroughout, requestQuestions, amountGranted, grantOf}
+use Rattle.requests.specs.RequestCapacity.{requestNumber, requestAmount, requestAfter}
+use Rattle.request_decision.specs.RequestQuestions.{Decides}
+use Rattle.request_decision.proofs.RequestLaws.{FieldFacts, fields, grant-limits, granted-free}
 
 module _ (s : State) (q : Request) where
   -- "A request that passes questions 1 to 13 is answered 0, and no other is."

@@ -24,12 +24,13 @@ use Rattle.register.specs.Order.{inOrder}
 use Rattle.spans.specs.Spans.{arrives}
 use Rattle.conferral.specs.Bookings.{covers, linesLeft}
 use Rattle.spans.proofs.SpanLaws.{SpanFacts, span-facts}
-use Rattle.requests.specs.declared.products.Product.{Product}
-use Rattle.requests.specs.declared.products.Product.the-variants.{Annual}
-use Rattle.requests.specs.declared.products.Request.{Request}
-use Rattle.requests.specs.Products.{firstOf, lastOf, isOffered, isInYear, isInTime}
-use Rattle.requests.specs.RequestCapacity.{requestFields, spanFirst, spanLast, daysAsked, spanPlace, pointOf, accountOf, chargeAsked, freeThroughout, requestNumber, amountGranted, requestAmount}
-use Rattle.requests.proofs.RequestLaws.{granted-free}
+use Rattle.products.specs.declared.products.Product.{Product}
+use Rattle.products.specs.declared.products.Product.the-variants.{Annual}
+use Rattle.products.specs.declared.products.Request.{Request}
+use Rattle.products.specs.Products.{firstOf, lastOf, isOffered, isInYear, isInTime}
+use Rattle.request_decision.specs.RequestQuestions.{requestFields, spanFirst, spanLast, daysAsked, spanPlace, pointOf, accountOf, chargeAsked, freeThroughout, amountGranted}
+use Rattle.requests.specs.RequestCapacity.{requestNumber, requestAmount}
+use Rattle.request_decision.proofs.RequestLaws.{granted-free}
 use Rattle.requests.proofs.AnswerLaws.{passes-answered, granted-le, accepted-amount}
 
 -- ---- what the calendar says

@@ -25,11 +25,12 @@ use Rattle.conferral.specs.declared.bookings.Grant.{Grant}
 use Rattle.conferral.specs.Bookings.{lineOf}
 use Rattle.spans.proofs.SpanLaws.{SpanFacts, span-facts}
 use Rattle.conferral.proofs.BookedLaws.{Bookable, BookedIn, booked-in}
-use Rattle.requests.specs.declared.products.Product.{Product}
-use Rattle.requests.specs.declared.products.Product.the-variants.{Annual, Month, Day}
-use Rattle.requests.specs.declared.products.Request.{Request}
-use Rattle.requests.specs.Products.{kindOf, firstOf, lastOf, monthOk}
-use Rattle.requests.specs.RequestCapacity.{spanFirst, spanLast, daysAsked, spanPlace, requestNumber, amountGranted, requestAmount, grantOf, requestAfter}
+use Rattle.products.specs.declared.products.Product.{Product}
+use Rattle.products.specs.declared.products.Product.the-variants.{Annual, Month, Day}
+use Rattle.products.specs.declared.products.Request.{Request}
+use Rattle.products.specs.Products.{kindOf, firstOf, lastOf, monthOk}
+use Rattle.request_decision.specs.RequestQuestions.{spanFirst, spanLast, daysAsked, spanPlace, amountGranted, grantOf}
+use Rattle.requests.specs.RequestCapacity.{requestNumber, requestAmount, requestAfter}
 use Rattle.requests.proofs.AnswerLaws.{RequestFacts, facts, granted-le, granted-from, granted-room, accepted-amount, accepted-after, refused-after}
 
 -- ---- the line of a product

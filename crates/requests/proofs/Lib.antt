@@ -1,5 +1,3 @@
-pub mod ProductLaws
-pub mod RequestLaws
 pub mod AnswerLaws
 pub mod ConferredLaws
 pub mod RefusalLaws

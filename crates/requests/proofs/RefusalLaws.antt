@@ -14,8 +14,9 @@ use Rattle.parts.proofs.TestLaws.{fails-at}
 use Rattle.register.proofs.OrderFacts.{ordered}
 use Rattle.parts.proofs.QuestionLaws.{numberAt, lone, RefusedAt, refused-at}
 use Rattle.spans.proofs.SpanLaws.{span-facts}
-use Rattle.requests.specs.declared.products.Request.{Request}
-use Rattle.requests.specs.RequestCapacity.{spanFirst, spanLast, daysAsked, spanPlace, accountOf, chargeAsked, isFree, requestQuestions, requestNumber}
+use Rattle.products.specs.declared.products.Request.{Request}
+use Rattle.request_decision.specs.RequestQuestions.{spanFirst, spanLast, daysAsked, spanPlace, accountOf, chargeAsked, isFree, requestQuestions}
+use Rattle.requests.specs.RequestCapacity.{requestNumber}
 
 module _ (s : State) (q : Request) where
   -- the k-th of the ten questions, from 0 on

@@ -1,3 +1,1 @@
-pub mod Products
 pub mod RequestCapacity
-pub mod Steps

@@ -1,6 +1,6 @@
 use mathlib.Core.Path.{_∙_, ap}
 use denote.Ref.{now}
-use Rattle.requests.specs.declared.products.Product.the-variants.{Day}
+use Rattle.products.specs.declared.products.Product.the-variants.{Day}
 use Rattle.records.specs.Records.{requestFor}
 use Prim.Native.Nat.{ℕ}
 use Rattle.records.proofs.CallLaws.{kind-annual, kind-month, kind-day, kind-none}

@@ -1,9 +1,9 @@
 use mathlib.Core.Path.{subst}
 use Rattle.parts.specs.Registers.{State, state}
-use Rattle.requests.specs.declared.requesting.Decision.{Decision}
-use Rattle.requests.specs.declared.requesting.Decision.the-variants.{Confer, Refuse}
-use Rattle.requests.specs.RequestCapacity.{requestQuestions}
-use Rattle.requests.specs.Steps.{Decides}
+use Rattle.request_decision.specs.declared.deciding.Decision.{Decision}
+use Rattle.request_decision.specs.declared.deciding.Decision.the-variants.{Confer, Refuse}
+use Rattle.request_decision.specs.RequestQuestions.{requestQuestions}
+use Rattle.request_decision.specs.RequestQuestions.{Decides}
 use Rattle.requests.proofs.AnswerLaws.{decided, refused}
 use borrow.Author.Needs.{needs}
 use Rattle.requests.proofs.requesting.request_capacity.Statement.{statement}

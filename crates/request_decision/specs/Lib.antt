@@ -1,0 +1,2 @@
+pub mod RequestQuestions
+pub mod Steps
