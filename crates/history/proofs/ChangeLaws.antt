@@ -1,11 +1,10 @@
 -- What `apply` is held to, over plain values.
 -- Assumes nothing.
-use mathlib.Core.Path.{_≡_, refl, sym, ap, _∙_, subst}
+use mathlib.Core.Path.{_≡_, refl, sym, _∙_, subst}
 use mathlib.Core.List.{List, []}
 use Prim.Native.Nat.{ℕ, zero, suc}
 use lib.ListN.{length}
-use Rattle.parts.specs.declared.registers.Register.{Register}
-use Rattle.parts.specs.Registers.{State, state}
+use Rattle.parts.specs.Registers.{State}
 use Rattle.parts.specs.Answers.{leaves}
 use Rattle.history.specs.declared.changes.Change.{Change}
 use Rattle.batches.specs.Batches.{Batch}
@@ -21,10 +20,6 @@ Applies s x users asked shares numbers number amount t shares-now numbers-now =
     (number ≡ a .number)
     × ((amount ≡ a .amount)
     × ((t ≡ after s c) × ((shares-now ≡ sharesLeft c a shares) × (numbers-now ≡ numbersLeft c a numbers))))
-
--- the register that a call gave back, handed on
-pub register-now : (v r : Register) (f l : List ℕ) (t : State) → v ≡ r → state r f l ≡ t → state v f l ≡ t
-register-now v r f l t e h = ap (λ (x : Register). state x f l) e ∙ h
 
 -- the two lists of a batch: by its own definition, and by its answer
 leaves-twice : (n : ℕ) (new old : List ℕ) → leaves n new old ≡ leaves n (leaves n new []) old

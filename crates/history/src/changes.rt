@@ -2,16 +2,11 @@
 ghost use mathlib.Core.Path.{_≡_};
 ghost use lib.ListN.{length};
 ghost use Rattle.parts.specs.Registers.{state};
-ghost use Rattle.parts.specs.Answers.{numberOfVerdict};
-ghost use Rattle.requests.specs.RequestCapacity.{numberOfConferral, amountOfConferral};
-ghost use Rattle.cessions.specs.CedeCapacity.{numberOfAnswer, amountOfAnswer};
 ghost use Rattle.reckoning.specs.Calls.{answer, after};
 ghost use Rattle.history.specs.Changes.{callOf, sharesLeft, numbersLeft};
-use cessions::Ceded;
+use applied::Applied;
 use cessions::Cession;
-use register::Filed;
 use register::Register;
-use requests::Conferred;
 use requests::Request;
 
 // A point to be opened.
@@ -38,59 +33,6 @@ pub enum Change {
     TurnYear(u16),
 }
 
-// What a call gives back: the register as it then is, the number, and the amount granted or ceded, else 0.
-#[repr(C)]
-pub struct Applied {
-    pub register: Register,
-    pub number: u8,
-    pub amount: u32,
-}
-
-// What a call without an amount gives back.
-pub fn applied_filed(f: Filed) -> Applied
-    ensures number { λ v. ⌜ v .number ≡ numberOfVerdict (f .answer) ⌝ }
-    ensures amount { λ v. ⌜ v .amount ≡ 0 ⌝ }
-    ensures register { λ v. ⌜ v .register ≡ f .register ⌝ }
-{
-    let answer = f.answer;
-    let register = f.register;
-    Applied {
-        register,
-        number: register::verdict_number(answer),
-        amount: 0,
-    }
-}
-
-// What a request gives back.
-pub fn applied_conferred(c: Conferred) -> Applied
-    ensures number { λ v. ⌜ v .number ≡ numberOfConferral (c .answer) ⌝ }
-    ensures amount { λ v. ⌜ v .amount ≡ amountOfConferral (c .answer) ⌝ }
-    ensures register { λ v. ⌜ v .register ≡ c .register ⌝ }
-{
-    let answer = c.answer;
-    let register = c.register;
-    Applied {
-        register,
-        number: requests::conferral_number(answer),
-        amount: requests::conferral_amount(answer),
-    }
-}
-
-// What a cession gives back.
-pub fn applied_ceded(c: Ceded) -> Applied
-    ensures number { λ v. ⌜ v .number ≡ numberOfAnswer (c .answer) ⌝ }
-    ensures amount { λ v. ⌜ v .amount ≡ amountOfAnswer (c .answer) ⌝ }
-    ensures register { λ v. ⌜ v .register ≡ c .register ⌝ }
-{
-    let answer = c.answer;
-    let register = c.register;
-    Applied {
-        register,
-        number: cessions::cession_number(answer),
-        amount: cessions::cession_amount(answer),
-    }
-}
-
 // Makes a call. The lists of users and asked amounts are read, and those of shares and numbers written, by a batch alone.
 pub fn apply(
     r: Register,
@@ -109,7 +51,7 @@ pub fn apply(
     ensures numbers { λ v. ⌜ now (numbers .exit) ≡ numbersLeft (callOf change (now (users .entry)) (now (asked .entry)) (length (now (shares .entry))) (length (now (numbers .entry)))) (answer (state r (now (free .entry)) (now (ledger .entry))) (callOf change (now (users .entry)) (now (asked .entry)) (length (now (shares .entry))) (length (now (numbers .entry))))) (now (numbers .entry)) ⌝ }
 {
     match change {
-        Change::OpenPoint(o) => applied_filed(filing::open_point(
+        Change::OpenPoint(o) => applied::applied_filed(filing::open_point(
             r,
             free,
             &ledger[..],
@@ -118,7 +60,7 @@ pub fn apply(
             o.total,
             o.rate,
         )),
-        Change::PlaceGuarantee(g) => applied_filed(filing::place_guarantee(
+        Change::PlaceGuarantee(g) => applied::applied_filed(filing::place_guarantee(
             r,
             &free[..],
             &ledger[..],
@@ -126,9 +68,9 @@ pub fn apply(
             g.guarantee,
         )),
         Change::RequestCapacity(q) => {
-            applied_conferred(requests::request_capacity(r, free, ledger, q))
+            applied::applied_conferred(requests::request_capacity(r, free, ledger, q))
         }
-        Change::ConferBatch(point) => applied_filed(batches::confer_batch(
+        Change::ConferBatch(point) => applied::applied_filed(batches::confer_batch(
             r,
             free,
             ledger,
@@ -138,7 +80,12 @@ pub fn apply(
             shares,
             numbers,
         )),
-        Change::CedeCapacity(c) => applied_ceded(cessions::cede_capacity(r, free, ledger, c)),
-        Change::TurnYear(year) => applied_filed(filing::turn_year(r, free, ledger, year)),
+        Change::CedeCapacity(c) => applied::applied_ceded(cessions::cede_capacity(
+            r,
+            free,
+            ledger,
+            c,
+        )),
+        Change::TurnYear(year) => applied::applied_filed(filing::turn_year(r, free, ledger, year)),
     }
 }

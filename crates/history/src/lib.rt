@@ -4,11 +4,8 @@
 // function that another crate can name has a `requires`.
 mod changes;
 
-pub use changes::Applied;
+pub use applied::Applied;
 pub use changes::Change;
 pub use changes::Guarantee;
 pub use changes::Opening;
-pub use changes::applied_ceded;
-pub use changes::applied_conferred;
-pub use changes::applied_filed;
 pub use changes::apply;

@@ -3,8 +3,8 @@ ghost use mathlib.Core.Path.{_≡_};
 ghost use Rattle.parts.specs.Registers.{state};
 ghost use Rattle.cessions.specs.CedeCapacity.{cessionNumber, cessionAmount, cessionAfter};
 ghost use Rattle.host.specs.Cessions.{cessionOf};
+use applied::Applied;
 use cessions::Cession;
-use history::Applied;
 use register::Register;
 
 // Cedes an amount from giver to receiver, for the rest of the year.
@@ -30,5 +30,5 @@ pub extern "C" fn ylgrandi_cession(
         arrival,
         amount,
     };
-    history::applied_ceded(cessions::cede_capacity(r, free, ledger, c))
+    applied::applied_ceded(cessions::cede_capacity(r, free, ledger, c))
 }

@@ -4,7 +4,7 @@ ghost use lib.ListN.{length};
 ghost use Rattle.parts.specs.Registers.{state};
 ghost use Rattle.batches.specs.Batches.{batch};
 ghost use Rattle.batches.specs.ConferBatch.{batchNumber, batchAfter, sharesAfter, numbersAfter};
-use history::Applied;
+use applied::Applied;
 use register::Register;
 
 // Confers a batch at a point for the whole year. Shares and numbers of its lines go to the two last lists.
@@ -25,7 +25,7 @@ pub extern "C" fn ylgrandi_batch(
     ensures shares { λ a. ⌜ now (shares .exit) ≡ sharesAfter (state r (now (free .entry)) (now (ledger .entry))) (batch point (now (users .entry)) (now (asked .entry))) (now (shares .entry)) (now (numbers .entry)) ⌝ }
     ensures numbers { λ a. ⌜ now (numbers .exit) ≡ numbersAfter (state r (now (free .entry)) (now (ledger .entry))) (batch point (now (users .entry)) (now (asked .entry))) (now (shares .entry)) (now (numbers .entry)) ⌝ }
 {
-    history::applied_filed(batches::confer_batch(
+    applied::applied_filed(batches::confer_batch(
         r,
         free,
         ledger,

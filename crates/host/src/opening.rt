@@ -2,7 +2,7 @@
 ghost use mathlib.Core.Path.{_≡_};
 ghost use Rattle.parts.specs.Registers.{state};
 ghost use Rattle.filing.specs.OpenPoint.{openNumber, openAfter};
-use history::Applied;
+use applied::Applied;
 use register::Register;
 
 // Opens a point: every gas-day of the year is free to the total.
@@ -20,5 +20,5 @@ pub extern "C" fn ylgrandi_open_point(
     ensures amount { λ a. ⌜ a .amount ≡ 0 ⌝ }
     ensures state { λ a. ⌜ state (a .register) (now (free .exit)) (now (ledger .entry)) ≡ openAfter (state r (now (free .entry)) (now (ledger .entry))) point kind total rate ⌝ }
 {
-    history::applied_filed(filing::open_point(r, free, ledger, point, kind, total, rate))
+    applied::applied_filed(filing::open_point(r, free, ledger, point, kind, total, rate))
 }

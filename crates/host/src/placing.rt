@@ -2,7 +2,7 @@
 ghost use mathlib.Core.Path.{_≡_};
 ghost use Rattle.parts.specs.Registers.{state};
 ghost use Rattle.filing.specs.PlaceGuarantee.{placeNumber, placeAfter};
-use history::Applied;
+use applied::Applied;
 use register::Register;
 
 // Puts a user on file, or replaces his guarantee.
@@ -18,5 +18,5 @@ pub extern "C" fn ylgrandi_place_guarantee(
     ensures amount { λ a. ⌜ a .amount ≡ 0 ⌝ }
     ensures state { λ a. ⌜ state (a .register) (now (free .entry)) (now (ledger .entry)) ≡ placeAfter (state r (now (free .entry)) (now (ledger .entry))) user guarantee ⌝ }
 {
-    history::applied_filed(filing::place_guarantee(r, free, ledger, user, guarantee))
+    applied::applied_filed(filing::place_guarantee(r, free, ledger, user, guarantee))
 }

@@ -3,7 +3,7 @@ ghost use mathlib.Core.Path.{_≡_};
 ghost use Rattle.parts.specs.Registers.{state};
 ghost use Rattle.requests.specs.RequestCapacity.{requestNumber, requestAmount, requestAfter};
 ghost use Rattle.host.specs.Requests.{productOf, requestOf};
-use history::Applied;
+use applied::Applied;
 use register::Register;
 use requests::Product;
 use requests::Request;
@@ -47,5 +47,5 @@ pub extern "C" fn ylgrandi_request(
         arrival,
         amount,
     };
-    history::applied_conferred(requests::request_capacity(r, free, ledger, q))
+    applied::applied_conferred(requests::request_capacity(r, free, ledger, q))
 }

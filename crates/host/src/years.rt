@@ -2,7 +2,7 @@
 ghost use mathlib.Core.Path.{_≡_};
 ghost use Rattle.parts.specs.Registers.{state};
 ghost use Rattle.turning.specs.TurnYear.{turnNumber, turnAfter};
-use history::Applied;
+use applied::Applied;
 use register::Register;
 
 // Turns the register to a later year: totals are free again, the ledger is empty and commitments are 0.
@@ -17,5 +17,5 @@ pub extern "C" fn ylgrandi_turn_year(
     ensures amount { λ a. ⌜ a .amount ≡ 0 ⌝ }
     ensures state { λ a. ⌜ state (a .register) (now (free .exit)) (now (ledger .exit)) ≡ turnAfter (state r (now (free .entry)) (now (ledger .entry))) year ⌝ }
 {
-    history::applied_filed(filing::turn_year(r, free, ledger, year))
+    applied::applied_filed(filing::turn_year(r, free, ledger, year))
 }

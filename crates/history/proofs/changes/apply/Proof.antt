@@ -4,7 +4,8 @@ use mathlib.Core.Path.{refl, _∙_}
 use Rattle.parts.specs.Registers.{State, state}
 use Rattle.batches.specs.Batches.{batch}
 use Rattle.history.specs.declared.changes.Change.the-variants.{OpenPoint, PlaceGuarantee, RequestCapacity, ConferBatch, CedeCapacity, TurnYear}
-use Rattle.history.proofs.ChangeLaws.{register-now, shares-as, numbers-as, found}
+use Rattle.applied.proofs.AppliedLaws.{register-now}
+use Rattle.history.proofs.ChangeLaws.{shares-as, numbers-as, found}
 use borrow.Author.Needs.{needs}
 use Rattle.history.proofs.changes.apply.Statement.{statement}
 use Rattle.history.proofs.changes.apply.Tie as tie
@@ -15,9 +16,9 @@ use Rattle.cessions.proofs.cede_capacity.Reads as cede-capacity-reads
 use Rattle.filing.proofs.open_point.Reads as open-point-reads
 use Rattle.filing.proofs.place_guarantee.Reads as place-guarantee-reads
 use Rattle.filing.proofs.turn_year.Reads as turn-year-reads
-use Rattle.history.proofs.changes.applied_ceded.Reads as applied-ceded-reads
-use Rattle.history.proofs.changes.applied_conferred.Reads as applied-conferred-reads
-use Rattle.history.proofs.changes.applied_filed.Reads as applied-filed-reads
+use Rattle.applied.proofs.applied_ceded.Reads as applied-ceded-reads
+use Rattle.applied.proofs.applied_conferred.Reads as applied-conferred-reads
+use Rattle.applied.proofs.applied_filed.Reads as applied-filed-reads
 use Rattle.requests.proofs.request_capacity.Reads as request-capacity-reads
 
 abbrev before : tie.Start → State

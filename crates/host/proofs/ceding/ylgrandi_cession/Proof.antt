@@ -1,5 +1,5 @@
 use mathlib.Core.Path.{_∙_}
-use Rattle.history.proofs.ChangeLaws.{register-now}
+use Rattle.applied.proofs.AppliedLaws.{register-now}
 use borrow.Author.Needs.{needs}
 use Rattle.host.proofs.ceding.ylgrandi_cession.Statement.{statement}
 use Rattle.host.proofs.ceding.ylgrandi_cession.Tie as tie

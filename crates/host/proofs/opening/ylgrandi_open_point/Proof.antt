@@ -1,5 +1,5 @@
 use mathlib.Core.Path.{_∙_}
-use Rattle.history.proofs.ChangeLaws.{register-now}
+use Rattle.applied.proofs.AppliedLaws.{register-now}
 use borrow.Author.Needs.{needs}
 use Rattle.host.proofs.opening.ylgrandi_open_point.Statement.{statement}
 use Rattle.host.proofs.opening.ylgrandi_open_point.Tie as tie

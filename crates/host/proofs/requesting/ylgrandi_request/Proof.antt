@@ -1,6 +1,6 @@
 use mathlib.Core.Path.{_∙_}
 use Rattle.parts.specs.Registers.{state}
-use Rattle.history.proofs.ChangeLaws.{register-now}
+use Rattle.applied.proofs.AppliedLaws.{register-now}
 use Rattle.host.proofs.RequestLaws.{requested}
 use borrow.Author.Needs.{needs}
 use Rattle.host.proofs.requesting.ylgrandi_request.Statement.{statement}

@@ -1,7 +1,7 @@
 use mathlib.Core.Path.{refl}
 use borrow.Author.Needs.{needs}
-use Rattle.history.proofs.changes.applied_filed.Statement.{statement}
-use Rattle.history.proofs.changes.applied_filed.Tie as tie
+use Rattle.applied.proofs.applied.applied_filed.Statement.{statement}
+use Rattle.applied.proofs.applied.applied_filed.Tie as tie
 
 verdict-number-requires : tie.Need-verdict-number-requires
 verdict-number-requires c κs = search needs
