@@ -12,7 +12,7 @@ use Rattle.parts.specs.Limits.{pointCount, lineCount}
 use Rattle.parts.specs.Registers.{State, pointAt}
 use Rattle.parts.specs.Answers.{Passes}
 use Rattle.parts.proofs.AnswerLaws.{passes, passed, leaves-new, leaves-old}
-use Rattle.register.proofs.OrderFacts.{InOrder, ordered}
+use Rattle.order.proofs.OrderFacts.{InOrder, ordered}
 use Rattle.batches.specs.Batches.{Batch, linesOf}
 use Rattle.batches.specs.ConferBatch.{mostLines, lengthsFit, batchQuestions, batchNumber, bookedLines, batchAfter}
 

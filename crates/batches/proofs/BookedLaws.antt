@@ -24,11 +24,11 @@ use Rattle.parts.specs.Charges.{charge}
 use Rattle.amounts.proofs.RangeLaws.{sum-le}
 use Rattle.amounts.proofs.CalendarLaws.{year-facts, day-within, day-in}
 use Rattle.parts.proofs.AnswerLaws.{leaves-either}
-use Rattle.register.specs.Ledger.{lineAt, lineLast}
+use Rattle.ledger.specs.Ledger.{lineAt, lineLast}
 use Rattle.register.specs.Sound.{Sound}
-use Rattle.register.proofs.LedgerLaws.{read-other}
-use Rattle.register.proofs.LineLaws.{annual-last}
-use Rattle.register.proofs.OrderKept.{account-other, field-kept}
+use Rattle.ledger.proofs.LedgerLaws.{read-other}
+use Rattle.ledger.proofs.LineLaws.{annual-last}
+use Rattle.order.proofs.OrderKept.{account-other, field-kept}
 use Rattle.conferral.specs.declared.bookings.Grant.{Grant}
 use Rattle.conferral.specs.Bookings.{daysOf, chargeOf, committed, lineOf, booked, hasRoom, bookAfter}
 use Rattle.conferral.proofs.RoomLaws.{LimitFacts, Room, room, has-room}

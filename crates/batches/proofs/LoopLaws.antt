@@ -31,7 +31,7 @@ use Rattle.amounts.proofs.RangeLaws.{replaced-length, replaced-out, replaced-sa
 use Rattle.amounts.proofs.AmountLaws.{days-of, taken-none, taken-twice}
 use Rattle.amounts.proofs.CalendarLaws.{year-facts}
 use Rattle.parts.proofs.TestLaws.{some-none, some-more}
-use Rattle.register.specs.Order.{inOrder}
+use Rattle.order.specs.Order.{inOrder}
 use Rattle.conferral.specs.declared.bookings.Grant.{Grant}
 use Rattle.conferral.specs.Bookings.{covers, daysOf, bookAfter}
 use Rattle.conferral.specs.Postings.{roomFor, Posting, posting, postAfter}

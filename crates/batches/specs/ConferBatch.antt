@@ -10,7 +10,7 @@ use Rattle.parts.specs.Limits.{pointCount}
 use Rattle.parts.specs.Registers.{State, pointAt}
 use Rattle.parts.specs.Points.{isOpen}
 use Rattle.parts.specs.Answers.{Question, _asks_, numberOf, leaves}
-use Rattle.register.specs.Order.{inOrder}
+use Rattle.order.specs.Order.{inOrder}
 use Rattle.conferral.specs.declared.bookings.Grant.{Grant}
 use Rattle.conferral.specs.Bookings.{linesLeft, booked}
 use Rattle.batches.specs.Batches.{Batch, linesOf, grantOf}

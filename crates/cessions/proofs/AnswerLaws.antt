@@ -10,13 +10,13 @@ use lib.IntN.{pos, negℤ}
 use borrow.Author.Tests.{ltb-true, leb-true, eqb-true}
 use Rattle.days.proofs.Ranges.{and-left, and-right}
 use Rattle.parts.specs.declared.answers.Refusal.{Refusal}
-use Rattle.register.specs.declared.ledger.Line.{Line}
+use Rattle.ledger.specs.declared.ledger.Line.{Line}
 use Rattle.parts.specs.declared.registers.Register.{Register}
 use Rattle.parts.specs.Limits.{lineCount}
 use Rattle.parts.specs.Registers.{State, state, withLines}
 use Rattle.parts.specs.Accounts.{isOnFile}
 use Rattle.parts.specs.Answers.{numberOfRefusal, Passes}
-use Rattle.register.proofs.OrderFacts.{InOrder, ordered}
+use Rattle.order.proofs.OrderFacts.{InOrder, ordered}
 use Rattle.parts.proofs.AnswerLaws.{passes, passed, refusal-number, leaves-new, leaves-old}
 use Rattle.cessions.specs.declared.ceding.Cession.{Cession}
 use Rattle.cessions.specs.declared.ceding.Handover.{Handover}

@@ -16,19 +16,19 @@ use mir.Facts.{toZ-ofZ, toZ-pos}
 use Rattle.days.proofs.Ranges.{both}
 use Rattle.parts.specs.declared.points.Point.{Point}
 use Rattle.parts.specs.declared.accounts.Account.{Account}
-use Rattle.register.specs.declared.ledger.Line.{Line}
+use Rattle.ledger.specs.declared.ledger.Line.{Line}
 use Rattle.parts.specs.Limits.{userCount, mostAmount}
 use Rattle.parts.specs.Registers.{State, accountAt, absentUser}
-use Rattle.register.specs.Ledger.{lineAt, withLine, lineLast}
+use Rattle.ledger.specs.Ledger.{lineAt, withLine, lineLast}
 use Rattle.parts.specs.Charges.{discharged}
 use Rattle.parts.specs.Accounts.{accountOk}
-use Rattle.register.specs.Order.{amountOk, lineOk}
+use Rattle.order.specs.Order.{amountOk, lineOk}
 use Rattle.register.specs.Sound.{Sound}
 use Rattle.parts.proofs.TestLaws.{or-left}
-use Rattle.register.proofs.LedgerLaws.{with-length, read-back, read-other}
-use Rattle.register.proofs.LineLaws.{annual-last}
-use Rattle.register.proofs.OrderFacts.{InOrder, in-order, guarantee-le, commitment-le, on-file-ok, line-ok}
-use Rattle.register.proofs.OrderKept.{set-keeps, account-same, account-other, field-kept, line-carry}
+use Rattle.ledger.proofs.LedgerLaws.{with-length, read-back, read-other}
+use Rattle.ledger.proofs.LineLaws.{annual-last}
+use Rattle.order.proofs.OrderFacts.{InOrder, in-order, guarantee-le, commitment-le, on-file-ok, line-ok}
+use Rattle.order.proofs.OrderKept.{set-keeps, account-same, account-other, field-kept, line-carry}
 use Rattle.conferral.specs.Bookings.{committed}
 use Rattle.spans.proofs.SpanLaws.{SpanFacts, span-facts}
 use Rattle.conferral.proofs.BookedLaws.{amount-fits, amount-ok, line-keeps}

@@ -16,7 +16,7 @@ use Rattle.parts.specs.Limits.{pointCount, userCount, mostAmount}
 use Rattle.parts.specs.Registers.{accountAt, withAccount}
 use Rattle.parts.specs.Charges.{discharged}
 use Rattle.parts.specs.Answers.{Question, numberOf}
-use Rattle.register.proofs.OrderKept.{account-other}
+use Rattle.order.proofs.OrderKept.{account-other}
 use Rattle.spans.specs.Spans.{arrives, annualAnswer}
 use Rattle.conferral.specs.declared.bookings.Grant.{Grant}
 use Rattle.conferral.specs.Bookings.{committed, chargeWithin}

@@ -10,10 +10,10 @@ use lib.IntN.{ℤ, pos, _+ℤ_, _-ℤ_, +ℤ-idr}
 use borrow.Author.Tests.{eqb-true, eq-eqb}
 use Rattle.days.proofs.Ranges.{and-left, and-right, both, within, is-between}
 use Rattle.parts.specs.Registers.{State}
-use Rattle.register.specs.declared.ledger.Line.{Line}
-use Rattle.register.specs.Ledger.{lineLast}
+use Rattle.ledger.specs.declared.ledger.Line.{Line}
+use Rattle.ledger.specs.Ledger.{lineLast}
 use Rattle.register.specs.Sound.{Sound}
-use Rattle.register.proofs.LineLaws.{annual-last}
+use Rattle.ledger.proofs.LineLaws.{annual-last}
 use Rattle.holdings.specs.Holdings.{signedSum, isHis, coversDay, partOf, partAt, heldOn}
 use Rattle.holdings.proofs.SumLaws.{sum-more, sum-same}
 use Rattle.cessions.specs.declared.ceding.Cession.{Cession}

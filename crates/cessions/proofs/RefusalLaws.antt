@@ -11,7 +11,7 @@ use borrow.Author.Tests.{leb-false, not-false}
 use Rattle.parts.specs.Limits.{lineCount}
 use Rattle.parts.specs.Registers.{State}
 use Rattle.amounts.specs.Amounts.{spanDays}
-use Rattle.register.specs.Order.{inOrder}
+use Rattle.order.specs.Order.{inOrder}
 use Rattle.parts.specs.Answers.{Question, _asks_, numberOf}
 use Rattle.parts.proofs.TestLaws.{fails-at}
 use Rattle.parts.proofs.QuestionLaws.{numberAt, lone, RefusedAt, refused-at}

@@ -9,16 +9,16 @@ use Rattle.days.specs.Days.{between}
 use Rattle.calendar.specs.Deadlines.{inTimeOwn}
 use Rattle.parts.specs.declared.points.Point.{Point}
 use Rattle.parts.specs.declared.accounts.Account.{Account}
-use Rattle.register.specs.declared.ledger.Line.{Line}
+use Rattle.ledger.specs.declared.ledger.Line.{Line}
 use Rattle.parts.specs.declared.registers.Register.{Register}
 use Rattle.parts.specs.Limits.{pointCount, userCount, mostAmount}
 use Rattle.parts.specs.Registers.{State, state, pointAt, accountAt, withLines, withAccount}
-use Rattle.register.specs.Ledger.{withLine}
+use Rattle.ledger.specs.Ledger.{withLine}
 use Rattle.amounts.specs.Amounts.{spanDays}
 use Rattle.parts.specs.Charges.{charge, discharged}
 use Rattle.parts.specs.Points.{isOpen}
 use Rattle.parts.specs.Accounts.{isOnFile}
-use Rattle.register.specs.Order.{inOrder}
+use Rattle.order.specs.Order.{inOrder}
 use Rattle.parts.specs.Answers.{numberOfRefusal, Question, _asks_, numberOf, leaves}
 use Rattle.spans.specs.Spans.{annualFirst, annualLast, spanOk}
 use Rattle.conferral.specs.Bookings.{covers, linesLeft, withCharge}

@@ -15,19 +15,19 @@ use Rattle.calendar.specs.ThermalYears.{inThermalYear, thermalFirst}
 use Rattle.days.proofs.Ranges.{is-between}
 use Rattle.parts.specs.declared.points.Point.{Point}
 use Rattle.parts.specs.declared.accounts.Account.{Account}
-use Rattle.register.specs.declared.ledger.Line.{Line}
+use Rattle.ledger.specs.declared.ledger.Line.{Line}
 use Rattle.parts.specs.Limits.{pointCount, rowLength, mostAmount}
 use Rattle.parts.specs.Registers.{State, pointAt, accountAt, absentUser}
-use Rattle.register.specs.Ledger.{lineAt, withLine, lineLast}
+use Rattle.ledger.specs.Ledger.{lineAt, withLine, lineLast}
 use Rattle.amounts.specs.Amounts.{entryAt, entryOf, freeOn}
 use Rattle.parts.specs.Accounts.{accountOk}
-use Rattle.register.specs.Order.{isMonthFirst, amountOk, lineOk}
+use Rattle.order.specs.Order.{isMonthFirst, amountOk, lineOk}
 use Rattle.register.specs.Sound.{Sound}
-use Rattle.register.proofs.LedgerLaws.{with-length, read-back, read-other}
+use Rattle.ledger.proofs.LedgerLaws.{with-length, read-back, read-other}
 use Rattle.amounts.proofs.CalendarLaws.{year-facts, day-within}
 use Rattle.amounts.proofs.AmountLaws.{taken-length, taken-in, taken-out, each-place, taken-le}
-use Rattle.register.proofs.OrderFacts.{InOrder, ordered, in-order, guarantee-le, on-file-ok, line-ok}
-use Rattle.register.proofs.OrderKept.{set-keeps, account-same, account-other, field-kept, line-carry}
+use Rattle.order.proofs.OrderFacts.{InOrder, ordered, in-order, guarantee-le, on-file-ok, line-ok}
+use Rattle.order.proofs.OrderKept.{set-keeps, account-same, account-other, field-kept, line-carry}
 use Rattle.conferral.specs.declared.bookings.Grant.{Grant}
 use Rattle.conferral.specs.Bookings.{daysOf, chargeOf, committed, lineOf, booked}
 use Rattle.conferral.proofs.RoomLaws.{Room}

@@ -14,12 +14,12 @@ use Rattle.calendar.specs.ThermalYears.{isThermalYear}
 use Rattle.parts.specs.declared.points.Point.{Point}
 use Rattle.parts.specs.declared.accounts.Account.{Account}
 use Rattle.parts.specs.declared.registers.Register.{Register}
-use Rattle.register.specs.declared.ledger.Line.{Line}
+use Rattle.ledger.specs.declared.ledger.Line.{Line}
 use Rattle.parts.specs.Limits.{pointCount, userCount, lineCount, rowLength, mostAmount}
 use Rattle.parts.specs.Tests.{every}
 use Rattle.parts.specs.Registers.{State, state, pointAt, accountAt, absentUser, withLines, withAccount, withAccounts}
 use Rattle.parts.proofs.TestLaws.{every-at}
-use Rattle.register.specs.Ledger.{withLine}
+use Rattle.ledger.specs.Ledger.{withLine}
 use Rattle.amounts.specs.Amounts.{entryIn, entryOf, taken}
 use Rattle.amounts.proofs.CalendarLaws.{year-facts, day-in}
 use Rattle.amounts.proofs.AmountLaws.{entry-in, taken-none}

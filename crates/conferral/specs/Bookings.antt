@@ -8,12 +8,12 @@ use lib.IntN.{pos}
 use Rattle.days.specs.Days.{between}
 use Rattle.parts.specs.declared.points.Point.{Point}
 use Rattle.parts.specs.declared.accounts.Account.{Account}
-use Rattle.register.specs.declared.ledger.Line.{Line}
+use Rattle.ledger.specs.declared.ledger.Line.{Line}
 use Rattle.parts.specs.declared.registers.Register.{Register}
 use Rattle.parts.specs.Limits.{pointCount, userCount, lineCount, mostAmount}
 use Rattle.parts.specs.Tests.{every}
 use Rattle.parts.specs.Registers.{State, state, pointAt, accountAt, withCommitment, withLines, withAccount}
-use Rattle.register.specs.Ledger.{withLine}
+use Rattle.ledger.specs.Ledger.{withLine}
 use Rattle.amounts.specs.Amounts.{spanDays, entryOf, taken}
 use Rattle.parts.specs.Charges.{charge, mostWord}
 use Rattle.conferral.specs.declared.bookings.Grant.{Grant}

@@ -11,7 +11,7 @@ use Rattle.parts.specs.declared.points.Point.{Point}
 use Rattle.parts.specs.declared.accounts.Account.{Account}
 use Rattle.parts.specs.Limits.{lineCount, rowLength}
 use Rattle.parts.specs.Tests.{every}
-use Rattle.register.specs.Ledger.{withLine}
+use Rattle.ledger.specs.Ledger.{withLine}
 use Rattle.conferral.specs.declared.bookings.Grant.{Grant}
 use Rattle.conferral.specs.Bookings.{covers, chargeAt, committed, lineOf, fieldTests}
 

@@ -11,15 +11,15 @@ use Rattle.parts.specs.declared.points.Point.{Point}
 use Rattle.parts.specs.declared.accounts.Account.{Account}
 use Rattle.parts.specs.Limits.{pointCount, rowLength}
 use Rattle.parts.specs.Registers.{State, pointAt, accountAt, closedPoint, absentUser, point}
-use Rattle.register.specs.Ledger.{lineAt}
+use Rattle.ledger.specs.Ledger.{lineAt}
 use Rattle.amounts.specs.Amounts.{yearDays, entryAt, capacity, freedRow}
 use Rattle.parts.specs.Points.{pointOk}
 use Rattle.parts.specs.Accounts.{accountOk}
 use Rattle.register.specs.Sound.{Sound}
 use Rattle.amounts.proofs.AmountLaws.{row-length, row-in, row-out}
 use Rattle.parts.proofs.AnswerLaws.{leaves-either}
-use Rattle.register.proofs.OrderFacts.{InOrder, in-order, open-ok, on-file-ok}
-use Rattle.register.proofs.OrderKept.{set-keeps, point-same, point-other, line-carry}
+use Rattle.order.proofs.OrderFacts.{InOrder, in-order, open-ok, on-file-ok}
+use Rattle.order.proofs.OrderKept.{set-keeps, point-same, point-other, line-carry}
 use Rattle.filing.specs.OpenPoint.{openNumber, opened, openAfter}
 use Rattle.filing.specs.PlaceGuarantee.{placeNumber, pledged, placed, placeAfter}
 use Rattle.filing.proofs.OpenLaws.{OpenFacts, facts as open-facts}

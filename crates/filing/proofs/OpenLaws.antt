@@ -14,7 +14,7 @@ use Rattle.parts.specs.Registers.{State, state, pointAt, point, withPoint}
 use Rattle.amounts.specs.Amounts.{yearDays, freedRow}
 use Rattle.parts.specs.Points.{isOpen, openTests}
 use Rattle.parts.proofs.AnswerLaws.{passes, leaves-new, leaves-old}
-use Rattle.register.proofs.OrderFacts.{InOrder, ordered, Open, open-facts}
+use Rattle.order.proofs.OrderFacts.{InOrder, ordered, Open, open-facts}
 use Rattle.filing.specs.OpenPoint.{openFields, openQuestions, openNumber, opened, openAfter}
 
 -- fields within limits

@@ -10,7 +10,7 @@ use Rattle.parts.specs.declared.registers.Register.{Register}
 use Rattle.parts.specs.Limits.{userCount, mostGuarantee}
 use Rattle.parts.specs.Registers.{State, state, accountAt, withAccount}
 use Rattle.parts.proofs.AnswerLaws.{passes, leaves-new, leaves-old}
-use Rattle.register.proofs.OrderFacts.{InOrder, ordered}
+use Rattle.order.proofs.OrderFacts.{InOrder, ordered}
 use Rattle.filing.specs.PlaceGuarantee.{placeFields, placeQuestions, placeNumber, pledged, placed, placeAfter}
 
 pub fields-user : (u g : ℕ) → placeFields u g ≡ true → u < userCount

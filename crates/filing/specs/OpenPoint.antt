@@ -9,7 +9,7 @@ use Rattle.parts.specs.Tests.{every}
 use Rattle.parts.specs.Registers.{State, state, pointAt, point, withPoint}
 use Rattle.amounts.specs.Amounts.{yearDays, freedRow}
 use Rattle.parts.specs.Points.{isOpen, openTests}
-use Rattle.register.specs.Order.{inOrder}
+use Rattle.order.specs.Order.{inOrder}
 use Rattle.parts.specs.Answers.{Question, _asks_, numberOf, leaves}
 
 -- question 2: "point 0 to 31, [..] total 1 to 9,999,999, [..] kinds, rate"

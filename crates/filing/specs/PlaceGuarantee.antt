@@ -7,7 +7,7 @@ use lib.Dec.{leb, ltb}
 use Rattle.parts.specs.declared.accounts.Account.{Account}
 use Rattle.parts.specs.Limits.{userCount, mostGuarantee}
 use Rattle.parts.specs.Registers.{State, state, accountAt, withOnFile, withGuarantee, withAccount}
-use Rattle.register.specs.Order.{inOrder}
+use Rattle.order.specs.Order.{inOrder}
 use Rattle.parts.specs.Answers.{Question, _asks_, numberOf, leaves}
 
 -- question 2: "users 0 to 63, [..] guarantee"

@@ -18,8 +18,8 @@ use Rattle.days.proofs.Ranges.{and-left, and-right, both, within, is-between}
 use Rattle.days.proofs.DateLaws.{month-least, month-in}
 use Rattle.calendar.proofs.ThermalYearLaws.{thermal-next}
 use Rattle.calendar.proofs.DeadlineLaws.{next-least}
-use Rattle.register.specs.declared.ledger.Line.{Line}
-use Rattle.register.specs.Ledger.{lineAt, lineLast}
+use Rattle.ledger.specs.declared.ledger.Line.{Line}
+use Rattle.ledger.specs.Ledger.{lineAt, lineLast}
 use Rattle.amounts.proofs.CalendarLaws.{thermal-year, day-within, day-year}
 use Rattle.holdings.specs.declared.holdings.Holding.{Holding}
 use Rattle.holdings.specs.declared.gathering.GatheredLine.{GatheredLine}

@@ -16,9 +16,9 @@ use Rattle.parts.specs.Tests.{allBelow}
 use Rattle.parts.specs.Registers.{State}
 use Rattle.amounts.proofs.CalendarLaws.{day-in}
 use Rattle.parts.specs.Answers.{_asks_, numberOf}
-use Rattle.register.specs.Ledger.{lineAt}
-use Rattle.register.specs.Order.{inOrder}
-use Rattle.register.proofs.OrderFacts.{ordered, line-facts}
+use Rattle.ledger.specs.Ledger.{lineAt}
+use Rattle.order.specs.Order.{inOrder}
+use Rattle.order.proofs.OrderFacts.{ordered, line-facts}
 use Rattle.amounts.specs.Amounts.{spanDays}
 use Rattle.parts.proofs.TestLaws.{all-none, all-same}
 use Rattle.holdings.specs.declared.holdings.Holding.{Holding}

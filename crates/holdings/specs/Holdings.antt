@@ -10,10 +10,10 @@ use lib.IntN.{ℤ, pos, _+ℤ_}
 use lib.Signed.{ltZ}
 use Rattle.days.specs.Days.{between}
 use Rattle.calendar.specs.ThermalYears.{inThermalYear}
-use Rattle.register.specs.declared.ledger.Line.{Line}
+use Rattle.ledger.specs.declared.ledger.Line.{Line}
 use Rattle.parts.specs.Limits.{lineCount}
 use Rattle.parts.specs.Tests.{allBelow}
-use Rattle.register.specs.Ledger.{lineAt, lineLast}
+use Rattle.ledger.specs.Ledger.{lineAt, lineLast}
 use Rattle.amounts.specs.Amounts.{spanDays}
 use Rattle.holdings.specs.declared.holdings.Holding.{Holding}
 use Rattle.holdings.specs.declared.holdings.Held.{Held}

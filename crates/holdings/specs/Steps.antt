@@ -11,7 +11,7 @@ use lib.Signed.{mag, ltZ}
 use Rattle.days.specs.Days.{between}
 use Rattle.calendar.specs.ThermalYears.{isThermalYear, thermalFirst, thermalLast}
 use Rattle.calendar.specs.Deadlines.{nextFirst}
-use Rattle.register.specs.declared.ledger.Line.{Line}
+use Rattle.ledger.specs.declared.ledger.Line.{Line}
 use Rattle.parts.specs.Limits.{lineCount}
 use Rattle.holdings.specs.declared.ends.Bounds.{Bounds}
 use Rattle.holdings.specs.declared.holdings.Holding.{Holding}

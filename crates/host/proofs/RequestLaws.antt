@@ -5,7 +5,7 @@ use mathlib.Core.Bool.{cond, and-false}
 use mathlib.Core.Path.{_≡_, ap, sym, _∙_, subst}
 use borrow.Author.Tests.{ne-eqb}
 use Rattle.parts.specs.Registers.{State}
-use Rattle.register.specs.Order.{inOrder}
+use Rattle.order.specs.Order.{inOrder}
 use Rattle.products.specs.declared.products.Product.{Product}
 use Rattle.products.specs.declared.products.Product.the-variants.{Annual, Month, Day}
 use Rattle.requests.specs.RequestCapacity.{requestNumber, requestAmount, requestAfter}

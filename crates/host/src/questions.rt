@@ -1,7 +1,7 @@
 // Two questions of document 01 by themselves.
 ghost use mathlib.Core.Path.{_≡_};
 ghost use Rattle.parts.specs.Registers.{state};
-ghost use Rattle.register.specs.Order.{inOrder};
+ghost use Rattle.order.specs.Order.{inOrder};
 ghost use Rattle.holdings.specs.Holdings.{heldAnswer, shortDay};
 use holdings::Held;
 use holdings::Holding;

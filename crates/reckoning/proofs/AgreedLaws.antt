@@ -14,8 +14,8 @@ use Rattle.amounts.specs.Amounts.{spanDays, freeOn}
 use Rattle.parts.specs.Charges.{charge}
 use Rattle.parts.specs.Points.{isOpen}
 use Rattle.parts.specs.Accounts.{isOnFile}
-use Rattle.register.specs.Order.{inOrder}
-use Rattle.register.proofs.OrderFacts.{ordered, Absent, OnFile, account-is}
+use Rattle.order.specs.Order.{inOrder}
+use Rattle.order.proofs.OrderFacts.{ordered, Absent, OnFile, account-is}
 use Rattle.spans.specs.Spans.{annualFirst, annualLast}
 use Rattle.cessions.specs.declared.ceding.Cession.{Cession}
 use Rattle.cessions.specs.CedeCapacity.{chargeOf}

@@ -20,7 +20,7 @@ use Rattle.register.specs.Fresh.{freshState}
 use Rattle.register.specs.Reports.{reportQuestions, reportNumber}
 use Rattle.register.specs.Sound.{Sound}
 use Rattle.register.proofs.FreshKept.{fresh-sound}
-use Rattle.register.proofs.OrderFacts.{ordered, commitment-le}
+use Rattle.order.proofs.OrderFacts.{ordered, commitment-le}
 use Rattle.register.proofs.ReportLaws.{report-facts, report-free, report-none}
 use Rattle.reckoning.specs.Reckoning.{Reckoning, grantedOn, charges, cededBy, linesUsed, begin}
 use Rattle.reckoning.specs.Demand3.{Balances}

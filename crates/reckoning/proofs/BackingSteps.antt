@@ -24,11 +24,11 @@ use Rattle.amounts.specs.Amounts.{yearDays}
 use Rattle.parts.specs.Points.{isOpen}
 use Rattle.amounts.proofs.RangeLaws.{replaced-length}
 use Rattle.parts.proofs.AnswerLaws.{leaves-new}
-use Rattle.register.specs.declared.ledger.Line.{Line}
-use Rattle.register.specs.Ledger.{lineAt, lineLast}
+use Rattle.ledger.specs.declared.ledger.Line.{Line}
+use Rattle.ledger.specs.Ledger.{lineAt, lineLast}
 use Rattle.register.specs.Sound.{Sound}
-use Rattle.register.proofs.OrderFacts.{ordered, line-facts}
-use Rattle.register.proofs.OrderKept.{field-kept}
+use Rattle.order.proofs.OrderFacts.{ordered, line-facts}
+use Rattle.order.proofs.OrderKept.{field-kept}
 use Rattle.filing.specs.OpenPoint.{openNumber, opened, openAfter}
 use Rattle.filing.specs.PlaceGuarantee.{placeNumber, pledged, placed, placeAfter}
 use Rattle.turning.specs.TurnYear.{turnNumber, settledAt, settledAccounts, turned, turnAfter}

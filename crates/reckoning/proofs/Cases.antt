@@ -30,8 +30,8 @@ use Rattle.amounts.proofs.AmountLaws.{row-in, capacity-in}
 use Rattle.parts.proofs.AnswerLaws.{passed, leaves-new}
 use Rattle.register.specs.Fresh.{freshState}
 use Rattle.register.specs.Sound.{Sound}
-use Rattle.register.proofs.OrderFacts.{ordered}
-use Rattle.register.proofs.OrderKept.{point-same, account-same, account-other, field-kept}
+use Rattle.order.proofs.OrderFacts.{ordered}
+use Rattle.order.proofs.OrderKept.{point-same, account-same, account-other, field-kept}
 use Rattle.register.proofs.FreshKept.{fresh-sound}
 use Rattle.filing.specs.OpenPoint.{openQuestions, openNumber, opened, openAfter}
 use Rattle.filing.specs.PlaceGuarantee.{placeFields, placeQuestions, placeNumber, placed, placeAfter}

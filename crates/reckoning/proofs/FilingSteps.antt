@@ -21,7 +21,7 @@ use Rattle.amounts.proofs.AmountLaws.{capacity-in, row-in, row-out, table-at}
 use Rattle.parts.proofs.AnswerLaws.{leaves-new}
 use Rattle.amounts.proofs.CalendarLaws.{year-facts, day-within}
 use Rattle.register.specs.Sound.{Sound}
-use Rattle.register.proofs.OrderKept.{field-kept}
+use Rattle.order.proofs.OrderKept.{field-kept}
 use Rattle.filing.specs.OpenPoint.{openNumber, opened, openAfter}
 use Rattle.filing.specs.PlaceGuarantee.{placeNumber, pledged, placed, placeAfter}
 use Rattle.turning.specs.TurnYear.{turnNumber, settledAt, settledAccounts, turned, turnAfter}

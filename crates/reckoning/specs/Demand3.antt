@@ -8,7 +8,7 @@ use mathlib.Core.List.{List, [], _∷_, _++_}
 use Rattle.calendar.specs.ThermalYears.{inThermalYear}
 use Rattle.parts.specs.Registers.{State, accountAt}
 use Rattle.parts.specs.Answers.{Passes}
-use Rattle.register.specs.Order.{inOrder}
+use Rattle.order.specs.Order.{inOrder}
 use Rattle.register.specs.Reports.{reportNumber, reportAmount}
 use Rattle.reckoning.specs.Calls.{Call, Answer, questions, answer, done, after, registerAfter}
 use Rattle.reckoning.specs.Reckoning.{Reckoning, grantedOn, charges, cededBy, reckoned}

@@ -13,11 +13,11 @@ use Rattle.parts.specs.Registers.{state, closedPoint, absentUser, blankRegister
 use Rattle.amounts.specs.Amounts.{entryAt, zeroTable}
 use Rattle.parts.specs.Points.{pointOk}
 use Rattle.parts.specs.Accounts.{accountOk}
-use Rattle.register.specs.Order.{inOrder}
+use Rattle.order.specs.Order.{inOrder}
 use Rattle.register.specs.Fresh.{freshState}
 use Rattle.register.specs.Sound.{Sized, Sound}
-use Rattle.register.proofs.OrderFacts.{InOrder, in-order}
-use Rattle.register.proofs.OrderLaws.{no-year-order}
+use Rattle.order.proofs.OrderFacts.{InOrder, in-order}
+use Rattle.order.proofs.OrderLaws.{no-year-order}
 
 pub blank-sized : (y : ℕ) → Sized (blankRegister y)
 unfolding blankRegister

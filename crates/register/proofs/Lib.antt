@@ -1,9 +1,3 @@
-pub mod SignLaws
-pub mod LedgerLaws
-pub mod OrderLaws
-pub mod OrderFacts
-pub mod OrderKept
 pub mod FreshLaws
 pub mod ReportLaws
 pub mod FreshKept
-pub mod LineLaws

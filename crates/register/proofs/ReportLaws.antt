@@ -13,7 +13,7 @@ use Rattle.amounts.specs.Amounts.{entryOf, freeOn}
 use Rattle.register.specs.Reports.{reportQuestions, reportNumber, reportAmount}
 use Rattle.parts.proofs.AnswerLaws.{passes, leaves-new, leaves-old}
 use Rattle.amounts.proofs.CalendarLaws.{year-facts, day-within}
-use Rattle.register.proofs.OrderFacts.{InOrder, ordered}
+use Rattle.order.proofs.OrderFacts.{InOrder, ordered}
 
 module _ (s : State) (p d : ℕ) where
   -- what an accepted one tells

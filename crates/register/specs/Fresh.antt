@@ -7,7 +7,7 @@ use lib.ListN.{length}
 use Rattle.calendar.specs.ThermalYears.{isThermalYear}
 use Rattle.parts.specs.Limits.{tableLength, ledgerLength}
 use Rattle.parts.specs.Registers.{State, state, blankRegister}
-use Rattle.register.specs.Ledger.{emptyLedger}
+use Rattle.ledger.specs.Ledger.{emptyLedger}
 use Rattle.amounts.specs.Amounts.{zeroTable}
 use Rattle.parts.specs.Answers.{Question, _asks_, numberOf, leaves}
 

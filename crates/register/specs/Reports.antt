@@ -8,7 +8,7 @@ use Rattle.parts.specs.Limits.{pointCount}
 use Rattle.parts.specs.Registers.{State, pointAt}
 use Rattle.amounts.specs.Amounts.{freeOn}
 use Rattle.parts.specs.Points.{isOpen}
-use Rattle.register.specs.Order.{inOrder}
+use Rattle.order.specs.Order.{inOrder}
 use Rattle.parts.specs.Answers.{Question, _asks_, numberOf, leaves}
 
 -- questions 1, 2, 3 and 8: "A report asks only that its day lies in the year"

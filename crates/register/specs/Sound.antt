@@ -6,7 +6,7 @@ use lib.ListN.{length}
 use Rattle.parts.specs.declared.registers.Register.{Register}
 use Rattle.parts.specs.Limits.{pointCount, userCount}
 use Rattle.parts.specs.Registers.{State}
-use Rattle.register.specs.Order.{inOrder}
+use Rattle.order.specs.Order.{inOrder}
 
 -- 32 points and 64 accounts: a register of the code has them by its type
 pub record Sized (r : Register) : Type 0 where

@@ -1,11 +1,9 @@
-// The capacity register: the lent ledger, question 1 ("is the register in order?"), the fresh register and the report. The types,
-// limits and functions of its parts are passed on, so that a caller names one crate.
+// The capacity register: the fresh register and the report. The types, limits and functions of its parts, the lines of the lent
+// ledger and question 1 ("is the register in order?") are passed on, so that a caller names one crate.
 //
 // The register goes in and comes back by value; the free amounts and the ledger are lent. No function that another crate can
 // name has a `requires`. The meaning of each answer is in specs/, and proofs/ has the laws that callers cite.
 mod fresh;
-mod ledger;
-mod order;
 mod reports;
 
 pub use amounts::clear;

@@ -17,7 +17,7 @@ use Rattle.parts.specs.Registers.{State, pointAt, accountAt}
 use Rattle.amounts.specs.Amounts.{spanDays, entryOf}
 use Rattle.parts.specs.Points.{isOpen}
 use Rattle.parts.specs.Accounts.{isOnFile}
-use Rattle.register.specs.Order.{inOrder}
+use Rattle.order.specs.Order.{inOrder}
 use Rattle.parts.specs.Answers.{numberOfRefusal, Question, _asks_, numberOf}
 use Rattle.conferral.specs.declared.bookings.Grant.{Grant}
 use Rattle.conferral.specs.Bookings.{covers, linesLeft, chargeOf}

@@ -12,7 +12,7 @@ use Rattle.parts.specs.Limits.{lineCount}
 use Rattle.parts.specs.Registers.{State}
 use Rattle.parts.specs.Answers.{numberOfRefusal, Passes}
 use Rattle.amounts.proofs.RangeLaws.{least-le}
-use Rattle.register.proofs.OrderFacts.{InOrder, ordered}
+use Rattle.order.proofs.OrderFacts.{InOrder, ordered}
 use Rattle.parts.proofs.AnswerLaws.{passes, passed, refusal-number, leaves-new, leaves-old}
 use Rattle.conferral.specs.declared.bookings.Grant.{Grant}
 use Rattle.conferral.specs.Bookings.{chargeOf, booked, hasRoom, bookAfter}

@@ -20,7 +20,7 @@ use Rattle.parts.specs.Points.{isOpen}
 use Rattle.parts.specs.Accounts.{isOnFile}
 use Rattle.amounts.proofs.RangeLaws.{least-is}
 use Rattle.amounts.proofs.CalendarLaws.{day-in}
-use Rattle.register.specs.Order.{inOrder}
+use Rattle.order.specs.Order.{inOrder}
 use Rattle.spans.specs.Spans.{arrives}
 use Rattle.conferral.specs.Bookings.{covers, linesLeft}
 use Rattle.spans.proofs.SpanLaws.{SpanFacts, span-facts}

@@ -13,14 +13,14 @@ use Rattle.days.specs.Days.{between}
 use Rattle.calendar.specs.ThermalYears.{isThermalYear, thermalMonthFirst}
 use Rattle.days.proofs.Ranges.{Within, within}
 use Rattle.parts.specs.Registers.{State}
-use Rattle.register.specs.Ledger.{lineLast}
+use Rattle.ledger.specs.Ledger.{lineLast}
 use Rattle.amounts.specs.Amounts.{entryOf, freeOn}
-use Rattle.register.specs.Order.{opensMonth, isMonthFirst}
+use Rattle.order.specs.Order.{opensMonth, isMonthFirst}
 use Rattle.register.specs.Sound.{Sound}
 use Rattle.parts.proofs.TestLaws.{some-of}
 use Rattle.amounts.proofs.RangeLaws.{least-at, least-is}
 use Rattle.amounts.proofs.CalendarLaws.{thermal-year}
-use Rattle.register.proofs.LineLaws.{annual-last, month-last, day-last}
+use Rattle.ledger.proofs.LineLaws.{annual-last, month-last, day-last}
 use Rattle.conferral.specs.declared.bookings.Grant.{Grant}
 use Rattle.conferral.specs.Bookings.{lineOf}
 use Rattle.spans.proofs.SpanLaws.{SpanFacts, span-facts}

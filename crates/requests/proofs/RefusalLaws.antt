@@ -11,7 +11,7 @@ use Rattle.parts.specs.Limits.{lineCount}
 use Rattle.parts.specs.Registers.{State}
 use Rattle.amounts.specs.Amounts.{entryOf, freeOn}
 use Rattle.parts.proofs.TestLaws.{fails-at}
-use Rattle.register.proofs.OrderFacts.{ordered}
+use Rattle.order.proofs.OrderFacts.{ordered}
 use Rattle.parts.proofs.QuestionLaws.{numberAt, lone, RefusedAt, refused-at}
 use Rattle.spans.proofs.SpanLaws.{span-facts}
 use Rattle.products.specs.declared.products.Request.{Request}

@@ -18,7 +18,7 @@ use Rattle.register.specs.Sound.{Sound}
 use Rattle.amounts.proofs.RangeLaws.{replaced-length, replaced-in}
 use Rattle.amounts.proofs.AmountLaws.{table-length, table-at}
 use Rattle.parts.proofs.AnswerLaws.{leaves-either}
-use Rattle.register.proofs.OrderFacts.{InOrder, in-order, Absent, OnFile, account-is, absent-ok, on-file-ok}
+use Rattle.order.proofs.OrderFacts.{InOrder, in-order, Absent, OnFile, account-is, absent-ok, on-file-ok}
 use Rattle.turning.specs.TurnYear.{turnNumber, settledAt, settledAccounts, turned, turnAfter}
 use Rattle.turning.proofs.TurnLaws.{TurnFacts, facts as turn-facts}
 

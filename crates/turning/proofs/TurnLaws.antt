@@ -12,7 +12,7 @@ use Rattle.parts.specs.Registers.{State, state}
 use Rattle.amounts.specs.Amounts.{daysOfYear, freedTable}
 use Rattle.parts.proofs.AnswerLaws.{passes, leaves-new, leaves-old}
 use Rattle.amounts.proofs.AmountLaws.{days-of}
-use Rattle.register.proofs.OrderFacts.{InOrder, ordered}
+use Rattle.order.proofs.OrderFacts.{InOrder, ordered}
 use Rattle.turning.specs.TurnYear.{turnQuestions, turnNumber, turnedRegister, turned, turnAfter}
 
 module _ (s : State) (y : ℕ) where

@@ -9,9 +9,9 @@ use Rattle.parts.specs.declared.registers.Register.{Register}
 use Rattle.parts.specs.Limits.{userCount}
 use Rattle.amounts.specs.Ranges.{replaced}
 use Rattle.parts.specs.Registers.{State, state, accountAt, withCommitment, withYear, withAccounts, withLines}
-use Rattle.register.specs.Ledger.{emptyLedger}
+use Rattle.ledger.specs.Ledger.{emptyLedger}
 use Rattle.amounts.specs.Amounts.{yearDays, freedTable}
-use Rattle.register.specs.Order.{inOrder}
+use Rattle.order.specs.Order.{inOrder}
 use Rattle.parts.specs.Answers.{Question, _asks_, numberOf, leaves}
 
 -- questions 1, 2 ("Y") and 15: "Is the new year later?"

@@ -8,7 +8,7 @@ use Rattle.days.proofs.Ranges.{and-left}
 use Rattle.parts.specs.Limits.{pointCount}
 use Rattle.parts.specs.Registers.{State, state, pointAt}
 use Rattle.parts.specs.Points.{isOpen}
-use Rattle.register.specs.Order.{inOrder}
+use Rattle.order.specs.Order.{inOrder}
 use Rattle.batches.specs.Batches.{Batch, batch}
 use Rattle.batches.specs.ConferBatch.{batchFields}
 use Rattle.batches.proofs.LoopLaws.{batch-one, batch-two, batch-three, batch-thirteen, batch-zero}

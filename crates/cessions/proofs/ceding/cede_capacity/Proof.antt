@@ -4,7 +4,7 @@ use borrow.Author.Tests.{le-leb}
 use mir.Syntax.{w32}
 use mir.Facts.{toZ-pos}
 use Rattle.parts.specs.Registers.{State, state}
-use Rattle.register.proofs.OrderFacts.{guarantee-le}
+use Rattle.order.proofs.OrderFacts.{guarantee-le}
 use Rattle.conferral.specs.Bookings.{covers}
 use Rattle.cessions.specs.declared.ceding.Handover.{Handover}
 use Rattle.cessions.specs.declared.ceding.Decision.{Decision}

@@ -3,7 +3,7 @@ use mathlib.Core.Bool.{true}
 use borrow.Author.Tests.{not-true, not-false}
 use Rattle.parts.specs.Registers.{State, state}
 use Rattle.parts.specs.Points.{isOpen}
-use Rattle.register.specs.Order.{inOrder}
+use Rattle.order.specs.Order.{inOrder}
 use Rattle.holdings.proofs.HeldLaws.{lines-in}
 use Rattle.cessions.specs.CedeCapacity.{cessionFields, pointOf, spanQuestions, cessionQuestions}
 use Rattle.cessions.proofs.CessionLaws.{fields, decides-too}

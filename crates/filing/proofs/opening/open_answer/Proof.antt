@@ -2,7 +2,7 @@ use mathlib.Core.Path.{_≡_, sym, ap, _∙_}
 use mathlib.Core.Bool.{true, not}
 use borrow.Author.Tests.{not-true, not-false}
 use Rattle.parts.specs.Registers.{State, state}
-use Rattle.register.specs.Order.{inOrder}
+use Rattle.order.specs.Order.{inOrder}
 use Rattle.filing.specs.OpenPoint.{openFields, openNumber}
 use Rattle.filing.proofs.OpenLaws.{fields-point}
 use borrow.Author.Needs.{needs}

@@ -2,7 +2,7 @@ use mathlib.Core.Path.{_≡_, sym, _∙_}
 use mathlib.Core.Bool.{true}
 use borrow.Author.Tests.{not-true, not-false, le-leb, lt-leb}
 use Rattle.parts.specs.Registers.{State, state, accountAt}
-use Rattle.register.specs.Order.{inOrder}
+use Rattle.order.specs.Order.{inOrder}
 use Rattle.filing.specs.PlaceGuarantee.{placeFields, placeNumber}
 use Rattle.filing.proofs.PlaceLaws.{fields-user}
 use native.Mathlib.Omega.{arith}

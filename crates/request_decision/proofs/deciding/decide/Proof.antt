@@ -4,7 +4,7 @@ use borrow.Author.Tests.{not-true, not-false}
 use Rattle.parts.specs.Registers.{State, state, pointAt, accountAt}
 use Rattle.parts.specs.Points.{isOpen}
 use Rattle.parts.specs.Accounts.{isOnFile}
-use Rattle.register.specs.Order.{inOrder}
+use Rattle.order.specs.Order.{inOrder}
 use Rattle.request_decision.specs.RequestQuestions.{requestFields, spanQuestions, requestQuestions}
 use Rattle.request_decision.proofs.RequestLaws.{fields, decides-too}
 use borrow.Author.Needs.{needs}

@@ -3,7 +3,7 @@ use mathlib.Core.Bool.{true}
 use borrow.Author.Tests.{not-true, not-false, lt-ltb, le-ltb}
 use Rattle.calendar.specs.ThermalYears.{isThermalYear}
 use Rattle.parts.specs.Registers.{State, state}
-use Rattle.register.specs.Order.{inOrder}
+use Rattle.order.specs.Order.{inOrder}
 use Rattle.turning.specs.TurnYear.{turnNumber}
 use native.Mathlib.Omega.{arith}
 use borrow.Author.Needs.{needs}

@@ -1,0 +1,3 @@
+pub mod SignLaws
+pub mod LedgerLaws
+pub mod LineLaws

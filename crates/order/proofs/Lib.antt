@@ -1,0 +1,4 @@
+pub mod OrderLaws
+pub mod OrderFacts
+pub mod OrderKept
+pub mod LineSpans
