@@ -18,12 +18,13 @@ use Rattle.parts.specs.Accounts.{isOnFile}
 use Rattle.parts.specs.Answers.{numberOfRefusal, Passes}
 use Rattle.order.proofs.OrderFacts.{InOrder, ordered}
 use Rattle.parts.proofs.AnswerLaws.{passes, passed, refusal-number, leaves-new, leaves-old}
-use Rattle.cessions.specs.declared.ceding.Cession.{Cession}
-use Rattle.cessions.specs.declared.ceding.Handover.{Handover}
-use Rattle.cessions.specs.declared.ceding.Decision.the-variants.{Cede, Refuse}
-use Rattle.cessions.specs.CedeCapacity.{pointOf, giverOf, receiverOf, isInYear, isInTime, isHeld, chargeOf, chargeMoved, annualLine, withTwoLines, cessionQuestions, cessionNumber, cessionAmount, ceded, cessionAfter}
-use Rattle.cessions.specs.Steps.{handoverOf, Decides}
-use Rattle.cessions.proofs.CessionLaws.{FieldFacts, fields}
+use Rattle.cession_decision.specs.declared.deciding.Cession.{Cession}
+use Rattle.cession_decision.specs.declared.deciding.Handover.{Handover}
+use Rattle.cession_decision.specs.declared.deciding.Decision.the-variants.{Cede, Refuse}
+use Rattle.cession_decision.specs.CessionQuestions.{pointOf, giverOf, receiverOf, isInYear, isInTime, isHeld, chargeOf, cessionQuestions}
+use Rattle.cession_decision.specs.Decisions.{handoverOf, Decides}
+use Rattle.cession_decision.proofs.CessionLaws.{FieldFacts, fields}
+use Rattle.cessions.specs.CedeCapacity.{chargeMoved, annualLine, withTwoLines, cessionNumber, cessionAmount, ceded, cessionAfter}
 
 module _ (s : State) (c : Cession) where
   -- "each other call of the list is answered 0 exactly when it passes all questions put to it"

@@ -17,8 +17,9 @@ use Rattle.days.proofs.Ranges.{both}
 use Rattle.parts.specs.declared.points.Point.{Point}
 use Rattle.parts.specs.declared.accounts.Account.{Account}
 use Rattle.ledger.specs.declared.ledger.Line.{Line}
+use Rattle.parts.specs.declared.registers.Register.{Register}
 use Rattle.parts.specs.Limits.{userCount, mostAmount}
-use Rattle.parts.specs.Registers.{State, accountAt, absentUser}
+use Rattle.parts.specs.Registers.{State, accountAt, withAccount, absentUser}
 use Rattle.ledger.specs.Ledger.{lineAt, withLine, lineLast}
 use Rattle.parts.specs.Charges.{discharged}
 use Rattle.parts.specs.Accounts.{accountOk}
@@ -32,8 +33,10 @@ use Rattle.order.proofs.OrderKept.{set-keeps, account-same, account-other, fiel
 use Rattle.conferral.specs.Bookings.{committed}
 use Rattle.spans.proofs.SpanLaws.{SpanFacts, span-facts}
 use Rattle.conferral.proofs.BookedLaws.{amount-fits, amount-ok, line-keeps}
-use Rattle.cessions.specs.declared.ceding.Cession.{Cession}
-use Rattle.cessions.specs.CedeCapacity.{giverOf, receiverOf, spanFirst, spanLast, chargeOf, annualLine, minusLine, plusLine, cessionNumber, ceded, cessionAfter}
+use Rattle.cession_decision.specs.declared.deciding.Cession.{Cession}
+use Rattle.cession_decision.specs.CessionQuestions.{giverOf, receiverOf, spanFirst, spanLast, chargeOf}
+use Rattle.cession_decision.proofs.CessionLaws.{FieldFacts}
+use Rattle.cessions.specs.CedeCapacity.{chargeMoved, annualLine, minusLine, plusLine, cessionNumber, ceded, cessionAfter}
 use Rattle.cessions.proofs.AnswerLaws.{CessionFacts, facts, accepted-after, refused-after}
 
 -- t is s with an amount ceded, number by number
@@ -82,6 +85,15 @@ minus-local n a b = rw (minus-is n b) (minus-fits n a b)
 
 pub minus-held : (n : ℕ) → 1 ≤ n → n ≤ mostAmount → toZ w32 (ofZ w32 (pos 0 -ℤ toZ w32 n)) ≡ negℤ (pos n)
 minus-held n a b = toZ-ofZ {w = w32} (minus-local n a b) ∙ minus-is n b
+
+module _ (r : Register) (c : Cession) where
+  -- "The charge moves between the commitments": the receiver's account is what it was before the giver's is lowered
+  pub moved-as : (n : ℕ) (lowered raised : Account) → FieldFacts c → lowered ≡ discharged (giverOf r c) n → raised ≡ committed (receiverOf r c) n
+      → withAccount (withAccount r (c .giver) lowered) (c .receiver) raised ≡ chargeMoved r c n
+  moved-as n lowered raised w e h =
+      let kept : accountAt (withAccount r (c .giver) (discharged (giverOf r c) n) .accounts) (c .receiver) ≡ receiverOf r c =
+      account-other (r .accounts) (c .giver) (discharged (giverOf r c) n) (c .receiver) (λ q. w .apart (sym q)) in
+      rw (e, h, kept)
 
 -- ---- ceded
 module _ (s : State) (c : Cession) (sound : Sound s) (w : CessionFacts s c) where

@@ -1,4 +1,3 @@
-pub mod CessionLaws
 pub mod AnswerLaws
 pub mod CededLaws
 pub mod RefusalLaws

@@ -16,9 +16,10 @@ use Rattle.register.specs.Sound.{Sound}
 use Rattle.ledger.proofs.LineLaws.{annual-last}
 use Rattle.holdings.specs.Holdings.{signedSum, isHis, coversDay, partOf, partAt, heldOn}
 use Rattle.holdings.proofs.SumLaws.{sum-more, sum-same}
-use Rattle.cessions.specs.declared.ceding.Cession.{Cession}
-use Rattle.cessions.specs.CedeCapacity.{spanFirst, spanLast, minusLine, plusLine, cessionNumber, cessionAfter}
-use Rattle.cessions.proofs.CessionLaws.{FieldFacts}
+use Rattle.cession_decision.specs.declared.deciding.Cession.{Cession}
+use Rattle.cession_decision.specs.CessionQuestions.{spanFirst, spanLast}
+use Rattle.cession_decision.proofs.CessionLaws.{FieldFacts}
+use Rattle.cessions.specs.CedeCapacity.{minusLine, plusLine, cessionNumber, cessionAfter}
 use Rattle.cessions.proofs.AnswerLaws.{facts}
 use Rattle.cessions.proofs.CededLaws.{CededIn, cession-ceded}
 

@@ -16,8 +16,9 @@ use Rattle.parts.specs.Answers.{Question, _asks_, numberOf}
 use Rattle.parts.proofs.TestLaws.{fails-at}
 use Rattle.parts.proofs.QuestionLaws.{numberAt, lone, RefusedAt, refused-at}
 use Rattle.holdings.specs.Holdings.{tooLittle, holdsOn, holdsThroughout}
-use Rattle.cessions.specs.declared.ceding.Cession.{Cession}
-use Rattle.cessions.specs.CedeCapacity.{giverOf, receiverOf, spanFirst, spanLast, givenOf, chargeOf, cessionQuestions, cessionNumber}
+use Rattle.cession_decision.specs.declared.deciding.Cession.{Cession}
+use Rattle.cession_decision.specs.CessionQuestions.{giverOf, receiverOf, spanFirst, spanLast, givenOf, chargeOf, cessionQuestions}
+use Rattle.cessions.specs.CedeCapacity.{cessionNumber}
 
 -- the questions after the first
 abbrev afterFirst : List Question → List Question

@@ -1,2 +1,1 @@
 pub mod CedeCapacity
-pub mod Steps

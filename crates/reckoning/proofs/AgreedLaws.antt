@@ -17,8 +17,8 @@ use Rattle.parts.specs.Accounts.{isOnFile}
 use Rattle.order.specs.Order.{inOrder}
 use Rattle.order.proofs.OrderFacts.{ordered, Absent, OnFile, account-is}
 use Rattle.spans.specs.Spans.{annualFirst, annualLast}
-use Rattle.cessions.specs.declared.ceding.Cession.{Cession}
-use Rattle.cessions.specs.CedeCapacity.{chargeOf}
+use Rattle.cession_decision.specs.declared.deciding.Cession.{Cession}
+use Rattle.cession_decision.specs.CessionQuestions.{chargeOf}
 use Rattle.reckoning.specs.Reckoning.{Reckoning, freeBy, cededCharge}
 use Rattle.reckoning.specs.Reasons.{Covered, LinesLeft, Uncovered, LinesShort}
 use Rattle.reckoning.proofs.Agreement.{Agree, at-each}

@@ -23,9 +23,10 @@ use Rattle.register.specs.Sound.{Sound}
 use Rattle.spans.proofs.SpanLaws.{FitFacts, span-facts}
 use Rattle.holdings.specs.Holdings.{signedSum, partAt, heldOn, holdsOn, holdsThroughout}
 use Rattle.holdings.proofs.SumLaws.{sum-none}
-use Rattle.cessions.specs.declared.ceding.Cession.{Cession}
-use Rattle.cessions.specs.CedeCapacity.{giverOf, spanFirst, spanLast, isInYear, givenOf, isHeld, chargeOf, cessionNumber}
-use Rattle.cessions.proofs.CessionLaws.{fields}
+use Rattle.cession_decision.specs.declared.deciding.Cession.{Cession}
+use Rattle.cession_decision.specs.CessionQuestions.{giverOf, spanFirst, spanLast, isInYear, givenOf, isHeld, chargeOf}
+use Rattle.cession_decision.proofs.CessionLaws.{fields}
+use Rattle.cessions.specs.CedeCapacity.{cessionNumber}
 use Rattle.cessions.proofs.MovedLaws.{holds}
 use Rattle.cessions.proofs.RefusalLaws.{not-in-order}
 use Rattle.reckoning.proofs.Agreement.{at-each}

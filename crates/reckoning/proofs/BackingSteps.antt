@@ -51,8 +51,9 @@ use Rattle.batches.specs.Shares.{shareOf}
 use Rattle.batches.specs.ConferBatch.{batchNumber, bookedIf, bookedLines, batchAfter}
 use Rattle.batches.proofs.AnswerLaws.{accepted-after}
 use Rattle.batches.proofs.BookedLaws.{bookable-line}
-use Rattle.cessions.specs.declared.ceding.Cession.{Cession}
-use Rattle.cessions.specs.CedeCapacity.{spanFirst, spanLast, chargeOf, cessionNumber, cessionAfter}
+use Rattle.cession_decision.specs.declared.deciding.Cession.{Cession}
+use Rattle.cession_decision.specs.CessionQuestions.{spanFirst, spanLast, chargeOf}
+use Rattle.cessions.specs.CedeCapacity.{cessionNumber, cessionAfter}
 use Rattle.cessions.proofs.AnswerLaws.{CessionFacts, facts}
 use Rattle.cessions.proofs.CededLaws.{CededIn, cession-ceded}
 use Rattle.cessions.proofs.MovedLaws.{holds, held-other, giver-holds, receiver-holds}

@@ -13,8 +13,9 @@ use Rattle.parts.specs.declared.accounts.Account.{Account}
 use Rattle.parts.specs.Registers.{State, pointAt, accountAt}
 use Rattle.amounts.specs.Amounts.{entryOf, freeOn}
 use Rattle.parts.specs.Points.{isOpen}
-use Rattle.cessions.specs.declared.ceding.Cession.{Cession}
-use Rattle.cessions.specs.CedeCapacity.{chargeOf, cessionNumber, cessionAfter}
+use Rattle.cession_decision.specs.declared.deciding.Cession.{Cession}
+use Rattle.cession_decision.specs.CessionQuestions.{chargeOf}
+use Rattle.cessions.specs.CedeCapacity.{cessionNumber, cessionAfter}
 use Rattle.cessions.proofs.AnswerLaws.{facts}
 use Rattle.cessions.proofs.CededLaws.{CededIn, cession-ceded}
 use Rattle.reckoning.specs.Reckoning.{Reckoning, charges, cededBy, cededCharge, grantedOn, entered}

@@ -8,8 +8,9 @@ use native.Mathlib.Omega.{arith}
 use Rattle.parts.specs.Registers.{State}
 use Rattle.parts.specs.Accounts.{isOnFile}
 use Rattle.spans.specs.Spans.{annualFirst, annualLast, spanOk}
-use Rattle.cessions.specs.declared.ceding.Cession.{Cession}
-use Rattle.cessions.specs.CedeCapacity.{giverOf, receiverOf, bothOnFile, isInYear, chargeOf, cessionQuestions, cessionNumber}
+use Rattle.cession_decision.specs.declared.deciding.Cession.{Cession}
+use Rattle.cession_decision.specs.CessionQuestions.{giverOf, receiverOf, bothOnFile, isInYear, chargeOf, cessionQuestions}
+use Rattle.cessions.specs.CedeCapacity.{cessionNumber}
 use Rattle.cessions.proofs.AnswerLaws.{answered-passes, passes-answered, facts, accepted-amount, refused-amount, refused-after}
 use Rattle.cessions.proofs.RefusalLaws.{refused-by, not-covered, ledger-full}
 use Rattle.reckoning.specs.Calls.{cedeCapacity, answer}

@@ -14,8 +14,9 @@ use Rattle.request_decision.specs.RequestQuestions.{grantOf, amountGranted, req
 use Rattle.requests.specs.RequestCapacity.{requestNumber, requestAmount, requestAfter}
 use Rattle.batches.specs.Batches.{Batch, linesOf}
 use Rattle.batches.specs.ConferBatch.{batchQuestions, batchNumber, bookedLines, sharesOf, numbersOf, batchAfter}
-use Rattle.cessions.specs.declared.ceding.Cession.{Cession}
-use Rattle.cessions.specs.CedeCapacity.{cessionQuestions, cessionNumber, cessionAmount, ceded, cessionAfter}
+use Rattle.cession_decision.specs.declared.deciding.Cession.{Cession}
+use Rattle.cession_decision.specs.CessionQuestions.{cessionQuestions}
+use Rattle.cessions.specs.CedeCapacity.{cessionNumber, cessionAmount, ceded, cessionAfter}
 
 -- "open point, place guarantee, request, batch, cession, turn the year". A batch has its four lists beside it: of the two that are
 -- written only how many places they have. "What a batch's two lent lists hold beforehand doesn't matter."

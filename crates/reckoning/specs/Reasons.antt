@@ -22,8 +22,8 @@ use Rattle.request_decision.specs.RequestQuestions.{requestFields}
 use Rattle.batches.specs.Batches.{Batch, linesOf, userOf, askedOf, lineFields}
 use Rattle.batches.specs.Shares.{proQuota}
 use Rattle.batches.specs.ConferBatch.{batchFields}
-use Rattle.cessions.specs.declared.ceding.Cession.{Cession}
-use Rattle.cessions.specs.CedeCapacity.{cessionFields, isInTime as isCessionInTime}
+use Rattle.cession_decision.specs.declared.deciding.Cession.{Cession}
+use Rattle.cession_decision.specs.CessionQuestions.{cessionFields, isInTime as isCessionInTime}
 use Rattle.reckoning.specs.Calls.{Call, openPoint, placeGuarantee, requestCapacity, conferBatch, cedeCapacity, turnYear, Answer}
 use Rattle.reckoning.specs.Reckoning.{Reckoning, freeBy, charges, cededBy, linesUsed, spanFirst, spanLast, cededCharge}
 

@@ -15,7 +15,7 @@ use Rattle.spans.specs.Spans.{annualFirst, annualLast}
 use Rattle.products.specs.declared.products.Request.{Request}
 use Rattle.products.specs.Products.{firstOf, lastOf}
 use Rattle.batches.specs.Batches.{linesOf}
-use Rattle.cessions.specs.declared.ceding.Cession.{Cession}
+use Rattle.cession_decision.specs.declared.deciding.Cession.{Cession}
 use Rattle.reckoning.specs.Calls.{Call, openPoint, placeGuarantee, requestCapacity, conferBatch, cedeCapacity, turnYear, Answer, answers}
 
 -- an amount granted to a user at a point, which covers each day from first to last, and its charge

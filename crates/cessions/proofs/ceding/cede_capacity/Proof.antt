@@ -6,11 +6,12 @@ use mir.Facts.{toZ-pos}
 use Rattle.parts.specs.Registers.{State, state}
 use Rattle.order.proofs.OrderFacts.{guarantee-le}
 use Rattle.conferral.specs.Bookings.{covers}
-use Rattle.cessions.specs.declared.ceding.Handover.{Handover}
-use Rattle.cessions.specs.declared.ceding.Decision.{Decision}
-use Rattle.cessions.specs.declared.ceding.Decision.the-variants.{Cede, Refuse}
-use Rattle.cessions.specs.CedeCapacity.{receiverOf, annualLine, cessionQuestions, cessionNumber}
-use Rattle.cessions.specs.Steps.{Decides}
+use Rattle.cession_decision.specs.declared.deciding.Handover.{Handover}
+use Rattle.cession_decision.specs.declared.deciding.Decision.{Decision}
+use Rattle.cession_decision.specs.declared.deciding.Decision.the-variants.{Cede, Refuse}
+use Rattle.cession_decision.specs.CessionQuestions.{receiverOf, cessionQuestions}
+use Rattle.cession_decision.specs.Decisions.{Decides}
+use Rattle.cessions.specs.CedeCapacity.{annualLine, cessionNumber}
 use Rattle.cessions.proofs.AnswerLaws.{answered-passes, CessionFacts, facts, decided-zero, ceded-as, decided, refused}
 use Rattle.cessions.proofs.CededLaws.{minus-local, minus-held}
 use native.Mathlib.Omega.{arith}

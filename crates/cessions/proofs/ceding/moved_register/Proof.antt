@@ -4,8 +4,9 @@ use borrow.Author.Tests.{leb-true}
 use Rattle.parts.specs.declared.registers.Register.{Register}
 use Rattle.parts.specs.Registers.{withLines}
 use Rattle.conferral.proofs.RoomLaws.{charged-exact}
-use Rattle.cessions.specs.CedeCapacity.{receiverOf}
-use Rattle.cessions.proofs.CessionLaws.{fields, moved-as}
+use Rattle.cession_decision.specs.CessionQuestions.{receiverOf}
+use Rattle.cession_decision.proofs.CessionLaws.{fields}
+use Rattle.cessions.proofs.CededLaws.{moved-as}
 use native.Mathlib.Omega.{arith}
 use borrow.Author.Needs.{needs}
 use Rattle.cessions.proofs.ceding.moved_register.Statement.{statement}

@@ -1,0 +1,3 @@
+pub mod CessionQuestions
+pub mod Decisions
+pub mod Steps
