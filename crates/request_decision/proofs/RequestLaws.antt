@@ -32,7 +32,7 @@ use Rattle.request_decision.specs.declared.deciding.Decision.the-variant
 use Rattle.products.specs.Products.{kindOf, monthOk, isInYear}
 use Rattle.request_decision.specs.RequestQuestions.{requestFields, spanFirst, spanLast, daysAsked, spanPlace, accountOf, grantFrom, grantOf, chargeAsked, isFree, freeThroughout, amountGranted}
 use Rattle.products.specs.Products.{spanAnswer}
-use Rattle.request_decision.specs.RequestQuestions.{Decides}
+use Rattle.request_decision.specs.Decisions.{Decides}
 use Rattle.request_decision.specs.Steps.{Spanned}
 
 -- ---- question 2

@@ -1,2 +1,3 @@
 pub mod RequestQuestions
+pub mod Decisions
 pub mod Steps

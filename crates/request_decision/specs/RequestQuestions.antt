@@ -1,7 +1,6 @@
 -- Document 01, "Questions put to a call": the questions put to a request, in their order, and what is granted.
 -- Assumes nothing.
 use Prim.Native.Nat.{ℕ, _+_}
-use mathlib.Core.Path.{_≡_}
 use mathlib.Core.Bool.{Bool, _&&_}
 use mathlib.Core.List.{List, [], _∷_}
 use lib.Dec.{ltb}
@@ -18,13 +17,11 @@ use Rattle.amounts.specs.Amounts.{spanDays, entryOf}
 use Rattle.parts.specs.Points.{isOpen}
 use Rattle.parts.specs.Accounts.{isOnFile}
 use Rattle.order.specs.Order.{inOrder}
-use Rattle.parts.specs.Answers.{numberOfRefusal, Question, _asks_, numberOf}
+use Rattle.parts.specs.Answers.{Question, _asks_}
 use Rattle.conferral.specs.declared.bookings.Grant.{Grant}
 use Rattle.conferral.specs.Bookings.{covers, linesLeft, chargeOf}
 use Rattle.products.specs.declared.products.Request.{Request}
 use Rattle.products.specs.Products.{kindOf, firstOf, lastOf, monthOk, isOffered, isInYear, isInTime}
-use Rattle.request_decision.specs.declared.deciding.Decision.{Decision}
-use Rattle.request_decision.specs.declared.deciding.Decision.the-variants.{Confer, Refuse}
 
 -- question 2: "point 0 to 31, users 0 to 63, [..] amount [..] 1 to 9,999,999, month 1 to 12"
 abbrev pub requestFields : Request → Bool
@@ -105,8 +102,3 @@ requestQuestions s q =
 -- "Granted is the asked amount, or the smallest free amount of the span if that is less."
 unfoldable pub amountGranted : Register → List ℕ → Request → ℕ
 amountGranted r f q = leastOf f (spanPlace r q) (daysAsked r q) (q .amount)
-
--- what a decision says where these questions are left to ask: the number of the first "no", or what is granted
-abbrev pub Decides : List Question → Register → List ℕ → Request → Decision → Type 0
-Decides qs r f q (Confer g) = (numberOf qs ≡ 0) × (g ≡ grantOf r q (amountGranted r f q))
-Decides qs r f q (Refuse why) = numberOfRefusal why ≡ numberOf qs

@@ -2,7 +2,8 @@
 ghost use mathlib.Core.Path.{_≡_};
 ghost use mathlib.Core.Bool.{true};
 ghost use Rattle.parts.specs.Registers.{state};
-ghost use Rattle.request_decision.specs.RequestQuestions.{requestFields, grantFrom, amountQuestions, spanQuestions, requestQuestions, Decides};
+ghost use Rattle.request_decision.specs.RequestQuestions.{requestFields, grantFrom, amountQuestions, spanQuestions, requestQuestions};
+ghost use Rattle.request_decision.specs.Decisions.{Decides};
 ghost use Rattle.request_decision.specs.Steps.{Spanned};
 use calendar::Span;
 use conferral::Grant;

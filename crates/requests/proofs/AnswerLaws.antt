@@ -22,7 +22,7 @@ use Rattle.request_decision.specs.declared.deciding.Decision.the-variants.{Conf
 use Rattle.products.specs.Products.{isOffered, isInYear, isInTime}
 use Rattle.request_decision.specs.RequestQuestions.{daysAsked, spanPlace, pointOf, accountOf, chargeAsked, freeThroughout, requestQuestions, amountGranted, grantOf}
 use Rattle.requests.specs.RequestCapacity.{requestNumber, requestAmount, requestAfter}
-use Rattle.request_decision.specs.RequestQuestions.{Decides}
+use Rattle.request_decision.specs.Decisions.{Decides}
 use Rattle.request_decision.proofs.RequestLaws.{FieldFacts, fields, grant-limits, granted-free}
 
 module _ (s : State) (q : Request) where

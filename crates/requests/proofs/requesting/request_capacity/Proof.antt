@@ -3,7 +3,7 @@ use Rattle.parts.specs.Registers.{State, state}
 use Rattle.request_decision.specs.declared.deciding.Decision.{Decision}
 use Rattle.request_decision.specs.declared.deciding.Decision.the-variants.{Confer, Refuse}
 use Rattle.request_decision.specs.RequestQuestions.{requestQuestions}
-use Rattle.request_decision.specs.RequestQuestions.{Decides}
+use Rattle.request_decision.specs.Decisions.{Decides}
 use Rattle.requests.proofs.AnswerLaws.{decided, refused}
 use borrow.Author.Needs.{needs}
 use Rattle.requests.proofs.requesting.request_capacity.Statement.{statement}
