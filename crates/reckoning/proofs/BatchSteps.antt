@@ -32,7 +32,7 @@ lines-year : (k : Reckoning) (p : ℕ) (us shares : List ℕ) (n : ℕ) → gran
 unfolding grantLines
 lines-year k p us shares zero = refl
 lines-year k p us shares (suc n) =
-    if-year _ _ _ _ ∙ lines-year k p us shares n
+    if-year (grantLines k p us shares n) (getD us n 0) p (getD shares n 0) ∙ lines-year k p us shares n
 
 module _ (s : State) (k : Reckoning) (b : Batch) (shares : List ℕ) (a : Agree s k)
     (answered : (i : ℕ) → i < linesOf b → getD shares i 0 ≡ shareOf s b i)
