@@ -11,8 +11,9 @@ use Rattle.turning.specs.TurnYear.{turnQuestions, turnNumber, turned, turnAfter
 use Rattle.conferral.specs.Bookings.{booked}
 use Rattle.requests.specs.declared.products.Request.{Request}
 use Rattle.requests.specs.RequestCapacity.{grantOf, amountGranted, requestQuestions, requestNumber, requestAmount, requestAfter}
-use Rattle.batches.specs.Batches.{Batch, linesOf}
-use Rattle.batches.specs.ConferBatch.{batchQuestions, batchNumber, bookedLines, sharesOf, numbersOf, batchAfter}
+use Rattle.shares.specs.Batches.{Batch, linesOf}
+use Rattle.shares.specs.ShareLines.{sharesOf, numbersOf}
+use Rattle.batches.specs.ConferBatch.{batchQuestions, batchNumber, bookedLines, batchAfter}
 use Rattle.cessions.specs.declared.ceding.Cession.{Cession}
 use Rattle.cessions.specs.CedeCapacity.{cessionQuestions, cessionNumber, cessionAmount, ceded, cessionAfter}
 

@@ -19,9 +19,9 @@ use Rattle.requests.specs.declared.products.Product.the-variants.{Annual}
 use Rattle.requests.specs.declared.products.Request.{Request}
 use Rattle.requests.specs.Products.{isInYear, isInTime}
 use Rattle.requests.specs.RequestCapacity.{requestFields}
-use Rattle.batches.specs.Batches.{Batch, linesOf, userOf, askedOf, lineFields}
-use Rattle.batches.specs.Shares.{proQuota}
-use Rattle.batches.specs.ConferBatch.{batchFields}
+use Rattle.shares.specs.Batches.{Batch, linesOf, userOf, askedOf, lineFields}
+use Rattle.shares.specs.Shares.{proQuota}
+use Rattle.shares.specs.ShareLines.{batchFields}
 use Rattle.cessions.specs.declared.ceding.Cession.{Cession}
 use Rattle.cessions.specs.CedeCapacity.{cessionFields, isInTime as isCessionInTime}
 use Rattle.reckoning.specs.Calls.{Call, openPoint, placeGuarantee, requestCapacity, conferBatch, cedeCapacity, turnYear, Answer}
