@@ -1,20 +1,22 @@
 -- What an answer to a batch tells, and what a refused one leaves.
 -- Assumes nothing.
 use mathlib.Core.Path.{_≡_, refl, sym}
-use mathlib.Core.Bool.{_&&_}
+use mathlib.Core.Bool.{true, _&&_}
 use Prim.Native.Nat.{ℕ, _+_, _≤_, _<_}
-use lib.Dec.{ltb, eqb}
+use lib.Dec.{eqb}
 use lib.ListN.{length}
-use borrow.Author.Tests.{ltb-true, leb-true, eqb-true}
-use Rattle.days.specs.Days.{between}
-use Rattle.days.proofs.Ranges.{and-left, and-right, Within, within}
-use Rattle.parts.specs.Limits.{pointCount, lineCount}
+use borrow.Author.Tests.{ltb-true, leb-true, eq-eqb}
+use Rattle.calendar.specs.ThermalYears.{isThermalYear}
+use Rattle.days.proofs.Ranges.{both, Within}
+use Rattle.parts.specs.Limits.{pointCount, lineCount, tableLength}
 use Rattle.parts.specs.Registers.{State, pointAt}
 use Rattle.parts.specs.Answers.{Passes}
 use Rattle.parts.proofs.AnswerLaws.{passes, passed, leaves-new, leaves-old}
 use Rattle.order.proofs.OrderFacts.{InOrder, ordered}
-use Rattle.batches.specs.Batches.{Batch, linesOf}
-use Rattle.batches.specs.ConferBatch.{mostLines, lengthsFit, batchQuestions, batchNumber, bookedLines, batchAfter}
+use Rattle.shares.specs.Batches.{Batch, linesOf}
+use Rattle.shares.specs.ShareLines.{mostLines, batchFields, canShare}
+use Rattle.shares.proofs.CanShareLaws.{field-facts}
+use Rattle.batches.specs.ConferBatch.{batchQuestions, batchNumber, bookedLines, batchAfter}
 
 module _ (s : State) (b : Batch) (m n : ℕ) where
   -- "each other call of the list is answered 0 exactly when it passes all questions put to it (a batch: those put to it as a whole)"
@@ -40,25 +42,25 @@ module _ (s : State) (b : Batch) (m n : ℕ) where
   pub facts : batchNumber s b m n ≡ 0 → BatchFacts
   facts h =
       let a = answered-passes h in
-      let point = ltb (b .point) pointCount in
-      let fit = lengthsFit (linesOf b) (length (b .asked)) m n in
-      let few = between 1 mostLines (linesOf b) in
-      let asked = eqb (length (b .asked)) (linesOf b) in
-      let shares = eqb m (linesOf b) in
-      let numbers = eqb n (linesOf b) in
-      let fits = and-right point fit (a .1 .0) in
-      let long = and-right few (asked && shares && numbers) fits in
-      let two = and-left (asked && shares) numbers long in
+      let w = field-facts b m n (a .1 .0) in
       record {
         order = ordered s (a .0);
-        point = ltb-true _ _ (and-left point fit (a .1 .0));
-        lines = within 1 mostLines (linesOf b) (and-left few (asked && shares && numbers) fits);
-        asked-length = eqb-true _ _ (and-left asked shares two);
-        shares-length = eqb-true _ _ (and-right asked shares two);
-        numbers-length = eqb-true _ _ (and-right (asked && shares) numbers long);
+        point = w .point;
+        lines = w .lines;
+        asked-length = w .asked-length;
+        shares-length = w .shares-length;
+        numbers-length = w .numbers-length;
         open-point = ltb-true _ _ (a .1 .1 .0);
         left = leb-true _ _ (a .1 .1 .1 .0);
       }
+
+  -- it can be shared out
+  pub can-share : batchNumber s b m n ≡ 0 → canShare (s .register) (s .free) b m n ≡ true
+  can-share h =
+      let year = isThermalYear (s .register .year) in
+      let table = eqb (length (s .free)) tableLength in
+      let w = facts h .order in
+      both (year && table) (batchFields b m n) (both year table (w .year) (eq-eqb _ _ (w .table-length))) (answered-passes h .1 .0)
 
   -- its lines are booked
   pub accepted-after : batchNumber s b m n ≡ 0 → batchAfter s b m n ≡ bookedLines s b (linesOf b)

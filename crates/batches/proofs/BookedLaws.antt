@@ -33,12 +33,13 @@ use Rattle.conferral.specs.declared.bookings.Grant.{Grant}
 use Rattle.conferral.specs.Bookings.{daysOf, chargeOf, committed, lineOf, booked, hasRoom, bookAfter}
 use Rattle.conferral.proofs.RoomLaws.{LimitFacts, Room, room, has-room}
 use Rattle.conferral.proofs.BookedLaws.{Bookable, booked-in}
-use Rattle.batches.specs.Batches.{Batch, linesOf, userOf, askedOf, grantFor, grantOf, lineNumber}
-use Rattle.batches.specs.Shares.{shareOf}
-use Rattle.batches.specs.ConferBatch.{batchNumber, bookedIf, bookedLines, batchAfter, sharesOf}
+use Rattle.shares.specs.Batches.{Batch, linesOf, userOf, askedOf, grantFor, grantOf, lineNumber}
+use Rattle.shares.specs.Shares.{shareOf}
+use Rattle.shares.specs.ShareLines.{sharesOf}
+use Rattle.shares.proofs.ShareLaws.{line-facts, share-passes, share-le, share-sum, free-of-year-le, list-at}
+use Rattle.batches.specs.ConferBatch.{batchNumber, bookedIf, bookedLines, batchAfter}
 use Rattle.batches.specs.Steps.{bookSome}
 use Rattle.batches.proofs.AnswerLaws.{BatchFacts, facts, accepted-after}
-use Rattle.batches.proofs.ShareLaws.{line-facts, share-passes, share-le, share-sum, free-of-year-le, list-at}
 
 -- "as an annual grant from 1 October": the grant of the share of line i
 abbrev pub given : State → Batch → ℕ → Grant

@@ -1,4 +1,2 @@
-pub mod Batches
-pub mod Shares
 pub mod ConferBatch
 pub mod Steps

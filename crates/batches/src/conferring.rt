@@ -4,35 +4,20 @@ ghost use Prim.Native.Nat.{_<_, _≤_};
 ghost use lib.ListN.{length};
 ghost use mathlib.Core.Bool.{true};
 ghost use Rattle.calendar.specs.ThermalYears.{isThermalYear};
-ghost use Rattle.parts.specs.Limits.{pointCount, tableLength};
+ghost use Rattle.parts.specs.Limits.{pointCount};
 ghost use Rattle.parts.specs.Registers.{state};
-ghost use Rattle.amounts.specs.Amounts.{yearDays, entryAt};
 ghost use Rattle.parts.specs.Answers.{numberOfVerdict};
-ghost use Rattle.batches.specs.Batches.{batch};
-ghost use Rattle.batches.specs.Shares.{smallest};
-ghost use Rattle.batches.specs.ConferBatch.{mostLines, lengthsFit, batchNumber, bookedLines, sharesOf, numbersOf, batchAfter, sharesAfter, numbersAfter};
+ghost use Rattle.shares.specs.Batches.{batch};
+ghost use Rattle.shares.specs.ShareLines.{mostLines, sharesOf, numbersOf};
+ghost use Rattle.batches.specs.ConferBatch.{batchNumber, bookedLines, batchAfter, sharesAfter, numbersAfter};
 ghost use Rattle.batches.specs.Steps.{bookSome};
 use crate::lines::USERS;
-use crate::lines::ask_lines;
 use crate::lines::grant_to;
 use crate::lines::year_grant;
-use crate::sharing::share_out;
-use crate::sharing::sum_asked;
 use register::Filed;
 use register::Refusal;
 use register::Register;
 use register::Verdict;
-
-// A batch has at most so many lines.
-pub const MOST_LINES: usize = 64;
-
-// Question 2 of the lengths of the four lists.
-fn lengths_fit(users: usize, asked: usize, shares: usize, numbers: usize) -> bool
-    ensures { λ v. ⌜ v ≡ lengthsFit users asked shares numbers ⌝ }
-{
-    ((1 <= users) & (users <= MOST_LINES))
-        & ((asked == users) & (shares == users) & (numbers == users))
-}
 
 // Questions 1, 2, 3 and 13; the lists for shares and numbers have so many places.
 fn batch_answer(
@@ -50,7 +35,7 @@ fn batch_answer(
     if !register::in_order(r, free, ledger) {
         return Verdict::Refused(Refusal::NotInOrder);
     }
-    let fit = lengths_fit(users.len(), asked.len(), shares, numbers);
+    let fit = shares::lengths_fit(users.len(), asked.len(), shares, numbers);
     if !(((point as usize) < register::POINTS) & fit) {
         return Verdict::Refused(Refusal::OutOfLimits);
     }
@@ -62,15 +47,6 @@ fn batch_answer(
         return Verdict::Refused(Refusal::LedgerFull);
     }
     Verdict::Accepted
-}
-
-// The smallest free amount of the year at a point.
-fn free_of_year(year: u16, free: &[u32], point: u8) -> u32
-    requires { ⌜ (isThermalYear year ≡ true) × ((point < pointCount) × (length (now free) ≡ tableLength)) ⌝ }
-    ensures { λ v. ⌜ v ≡ smallest (now (free .entry)) (entryAt point 0) (yearDays year) ⌝ }
-{
-    let at = register::ROW * (point as usize);
-    register::least_free(free, at, register::days_of_year(year), free[at])
 }
 
 // Books each share above 0, in the order of the lines, and takes their sum from each day of the year. A share of 0 has no room in any
@@ -123,10 +99,7 @@ fn confer_lines(
     ensures shares { λ v. ⌜ now (shares .exit) ≡ sharesOf (state r (now (free .entry)) (now (ledger .entry))) (batch point (now (users .entry)) (now (asked .entry))) ⌝ }
     ensures numbers { λ v. ⌜ now (numbers .exit) ≡ numbersOf (state r (now (free .entry)) (now (ledger .entry))) (batch point (now (users .entry)) (now (asked .entry))) ⌝ }
 {
-    let smallest = free_of_year(r.year, &free[..], point);
-    ask_lines(r, point, users, asked, numbers);
-    let sum = sum_asked(asked, &numbers[..]);
-    share_out(asked, shares, numbers, smallest, sum);
+    shares::share_lines(r, &free[..], point, users, asked, shares, numbers);
     book_shares(r, free, ledger, point, users, &shares[..])
 }
 

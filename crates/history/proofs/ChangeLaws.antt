@@ -7,8 +7,9 @@ use lib.ListN.{length}
 use Rattle.parts.specs.Registers.{State}
 use Rattle.parts.specs.Answers.{leaves}
 use Rattle.history.specs.declared.changes.Change.{Change}
-use Rattle.batches.specs.Batches.{Batch}
-use Rattle.batches.specs.ConferBatch.{batchNumber, sharesOf, numbersOf, sharesAfter, numbersAfter}
+use Rattle.shares.specs.Batches.{Batch}
+use Rattle.shares.specs.ShareLines.{sharesOf, numbersOf}
+use Rattle.batches.specs.ConferBatch.{batchNumber, sharesAfter, numbersAfter}
 use Rattle.reckoning.specs.Calls.{Call, conferBatch, answer, after}
 use Rattle.history.specs.Changes.{callOf, sharesLeft, numbersLeft}
 

@@ -3,7 +3,7 @@
 use Prim.Native.Nat.{ℕ}
 use mathlib.Core.List.{List}
 use Rattle.parts.specs.Answers.{leaves}
-use Rattle.batches.specs.Batches.{batch}
+use Rattle.shares.specs.Batches.{batch}
 use Rattle.history.specs.declared.changes.Change.{Change}
 use Rattle.history.specs.declared.changes.Change.the-variants.{OpenPoint, PlaceGuarantee, RequestCapacity, ConferBatch, CedeCapacity, TurnYear}
 use Rattle.reckoning.specs.Calls.{Call, openPoint, placeGuarantee, requestCapacity, conferBatch, cedeCapacity, turnYear, Answer}

@@ -2,7 +2,7 @@
 ghost use mathlib.Core.Path.{_≡_};
 ghost use lib.ListN.{length};
 ghost use Rattle.parts.specs.Registers.{state};
-ghost use Rattle.batches.specs.Batches.{batch};
+ghost use Rattle.shares.specs.Batches.{batch};
 ghost use Rattle.batches.specs.ConferBatch.{batchNumber, batchAfter, sharesAfter, numbersAfter};
 use applied::Applied;
 use register::Register;

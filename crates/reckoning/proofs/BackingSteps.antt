@@ -46,8 +46,8 @@ use Rattle.request_decision.specs.RequestQuestions.{grantOf as grantRequested}
 use Rattle.requests.specs.RequestCapacity.{requestNumber, requestAmount, requestAfter}
 use Rattle.requests.proofs.AnswerLaws.{granted-room, accepted-amount}
 use Rattle.requests.proofs.ConferredLaws.{request-booked}
-use Rattle.batches.specs.Batches.{Batch, linesOf, grantOf}
-use Rattle.batches.specs.Shares.{shareOf}
+use Rattle.shares.specs.Batches.{Batch, linesOf, grantOf}
+use Rattle.shares.specs.Shares.{shareOf}
 use Rattle.batches.specs.ConferBatch.{batchNumber, bookedIf, bookedLines, batchAfter}
 use Rattle.batches.proofs.AnswerLaws.{accepted-after}
 use Rattle.batches.proofs.BookedLaws.{bookable-line}

@@ -12,8 +12,8 @@ use Rattle.calendar.specs.ThermalYears.{thermalFirst, thermalLast}
 use Rattle.parts.specs.Registers.{State}
 use Rattle.conferral.specs.Bookings.{booked}
 use Rattle.conferral.proofs.BookedLaws.{Bookable, booked-in}
-use Rattle.batches.specs.Batches.{Batch, linesOf, userOf, grantOf}
-use Rattle.batches.specs.Shares.{shareOf}
+use Rattle.shares.specs.Batches.{Batch, linesOf, userOf, grantOf}
+use Rattle.shares.specs.Shares.{shareOf}
 use Rattle.batches.specs.ConferBatch.{bookedIf, bookedLines}
 use Rattle.reckoning.specs.Reckoning.{Reckoning, grantTo, grantIf, grantLines}
 use Rattle.reckoning.proofs.Agreement.{Agree}

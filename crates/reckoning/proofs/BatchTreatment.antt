@@ -17,12 +17,14 @@ use Rattle.amounts.specs.Amounts.{yearDays}
 use Rattle.parts.specs.Answers.{leaves}
 use Rattle.parts.proofs.AnswerLaws.{leaves-new, leaves-old}
 use Rattle.amounts.proofs.RangeLaws.{sum-same}
-use Rattle.batches.specs.Batches.{Batch, linesOf, userOf, askedOf, chargeAsked, lineQuestions, lineNumber}
-use Rattle.batches.specs.Shares.{freeOfYear, countedAt, sumAsked, proQuota, shareOf, numberIf, numberOfLine, listOf}
-use Rattle.batches.specs.ConferBatch.{batchQuestions, batchNumber, sharesOf, numbersOf}
+use Rattle.shares.specs.Batches.{Batch, linesOf, userOf, askedOf, chargeAsked, lineQuestions, lineNumber}
+use Rattle.shares.specs.Shares.{freeOfYear, countedAt, sumAsked, proQuota, shareOf, numberIf, numberOfLine, listOf}
+use Rattle.shares.specs.ShareLines.{sharesOf, numbersOf}
+use Rattle.batches.specs.ConferBatch.{batchQuestions, batchNumber}
 use Rattle.batches.proofs.AnswerLaws.{answered-passes, passes-answered, facts, refused-after}
-use Rattle.batches.proofs.ShareLaws.{line-facts, share-sum, free-of-year-le, free-of-year-is, list-at, list-length}
-use Rattle.batches.proofs.RefusalLaws.{refused-by, ledger-full, line-refused-by, line-repeated, line-not-covered, line-nothing-free, line-answered}
+use Rattle.shares.proofs.ShareLaws.{line-facts, share-sum, free-of-year-le, free-of-year-is, list-at, list-length}
+use Rattle.shares.proofs.RefusalLaws.{line-refused-by, line-repeated, line-not-covered, line-nothing-free, line-answered}
+use Rattle.batches.proofs.RefusalLaws.{refused-by, ledger-full}
 use Rattle.reckoning.specs.Calls.{Answer, conferBatch, answer}
 use Rattle.reckoning.specs.Reckoning.{Reckoning}
 use Rattle.reckoning.specs.Reasons.{FairShares, linePassed, askedIfPassed, lineCharge, LineGrounds, BatchGrounds, Uncovered, oneOf, LineReasons}

@@ -40,12 +40,13 @@ use Rattle.filing.proofs.Kept.{open-keeps, place-keeps}
 use Rattle.conferral.specs.Bookings.{covers}
 use Rattle.requests.specs.RequestCapacity.{requestNumber, requestAmount}
 use Rattle.requests.proofs.Cases.{p8, p8-late, p9, p10, p10-uncovered, p10-covered}
-use Rattle.batches.specs.Batches.{Batch, linesOf, userOf, askedOf, namedBefore, chargeAsked, lineQuestions, lineNumber}
-use Rattle.batches.specs.Shares.{freeOfYear, shareOf, numberOfLine, listOf}
-use Rattle.batches.specs.ConferBatch.{batchFields, batchNumber, sharesOf, numbersOf}
+use Rattle.shares.specs.Batches.{Batch, linesOf, userOf, askedOf, namedBefore, chargeAsked, lineQuestions, lineNumber}
+use Rattle.shares.specs.Shares.{freeOfYear, shareOf, numberOfLine, listOf}
+use Rattle.shares.specs.ShareLines.{batchFields, sharesOf, numbersOf}
+use Rattle.batches.specs.ConferBatch.{batchNumber}
 use Rattle.batches.proofs.AnswerLaws.{passes-answered}
-use Rattle.batches.proofs.ShareLaws.{free-of-year-is, list-at}
-use Rattle.batches.proofs.Cases.{p11, p12}
+use Rattle.shares.proofs.ShareLaws.{free-of-year-is, list-at}
+use Rattle.shares.proofs.Cases.{p11, p12}
 use Rattle.reckoning.specs.Calls.{Answer, toldBatch, placeGuarantee, conferBatch, answer, registerAfter}
 use Rattle.reckoning.specs.Cases.{opening, registerOfOne, ample, registerOfThree, annualOfTen, batchOfThree, batchOfTwo, ProvedCases}
 

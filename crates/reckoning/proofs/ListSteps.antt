@@ -9,11 +9,12 @@ use lib.ListN.{getD}
 use Rattle.parts.specs.Registers.{State}
 use Rattle.parts.specs.Answers.{leaves}
 use Rattle.parts.proofs.AnswerLaws.{leaves-new, leaves-old}
-use Rattle.batches.specs.Batches.{Batch, linesOf}
-use Rattle.batches.specs.ConferBatch.{batchNumber, sharesOf, batchAfter}
-use Rattle.batches.specs.Shares.{shareOf}
+use Rattle.shares.specs.Batches.{Batch, linesOf}
+use Rattle.shares.specs.ShareLines.{sharesOf}
+use Rattle.shares.specs.Shares.{shareOf}
+use Rattle.batches.specs.ConferBatch.{batchNumber, batchAfter}
 use Rattle.batches.proofs.AnswerLaws.{accepted-after}
-use Rattle.batches.proofs.ShareLaws.{list-at}
+use Rattle.shares.proofs.ShareLaws.{list-at}
 use Rattle.batches.proofs.BookedLaws.{bookable-line}
 use Rattle.reckoning.specs.Calls.{Call, openPoint, placeGuarantee, requestCapacity, conferBatch, cedeCapacity, turnYear, answer, after, afterAll, answers}
 use Rattle.reckoning.specs.Reckoning.{Reckoning, entered, enter, reckon}

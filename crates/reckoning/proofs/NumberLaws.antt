@@ -8,7 +8,7 @@ use lib.Dec.{eqb}
 use borrow.Author.Tests.{eq-eqb}
 use Rattle.parts.specs.Answers.{Question, _asks_, numberOf}
 use Rattle.parts.proofs.TestLaws.{or-left, or-right}
-use Rattle.batches.specs.Shares.{numberIf}
+use Rattle.shares.specs.Shares.{numberIf}
 use Rattle.reckoning.specs.Reasons.{oneOf}
 
 -- the numbers of the questions

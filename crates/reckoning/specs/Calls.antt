@@ -12,8 +12,9 @@ use Rattle.conferral.specs.Bookings.{booked}
 use Rattle.products.specs.declared.products.Request.{Request}
 use Rattle.request_decision.specs.RequestQuestions.{grantOf, amountGranted, requestQuestions}
 use Rattle.requests.specs.RequestCapacity.{requestNumber, requestAmount, requestAfter}
-use Rattle.batches.specs.Batches.{Batch, linesOf}
-use Rattle.batches.specs.ConferBatch.{batchQuestions, batchNumber, bookedLines, sharesOf, numbersOf, batchAfter}
+use Rattle.shares.specs.Batches.{Batch, linesOf}
+use Rattle.shares.specs.ShareLines.{sharesOf, numbersOf}
+use Rattle.batches.specs.ConferBatch.{batchQuestions, batchNumber, bookedLines, batchAfter}
 use Rattle.cession_decision.specs.declared.deciding.Cession.{Cession}
 use Rattle.cession_decision.specs.CessionQuestions.{cessionQuestions}
 use Rattle.cessions.specs.CedeCapacity.{cessionNumber, cessionAmount, ceded, cessionAfter}

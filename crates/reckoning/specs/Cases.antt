@@ -12,8 +12,8 @@ use Rattle.parts.specs.Charges.{charge}
 use Rattle.products.specs.declared.products.Product.the-variants.{Annual}
 use Rattle.products.specs.declared.products.Request.{Request}
 use Rattle.products.specs.Products.{firstOf}
-use Rattle.batches.specs.Batches.{Batch, batch}
-use Rattle.batches.specs.Shares.{freeOfYear}
+use Rattle.shares.specs.Batches.{Batch, batch}
+use Rattle.shares.specs.Shares.{freeOfYear}
 use Rattle.reckoning.specs.Calls.{Call, openPoint, placeGuarantee, requestCapacity, conferBatch, answer, registerAfter}
 
 -- The register of cases p8 to p12: 2023, point 0 opened with total 1,000 and rate 100, then the guarantees of some users placed

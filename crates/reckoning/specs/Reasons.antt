@@ -19,9 +19,9 @@ use Rattle.products.specs.declared.products.Product.the-variants.{Annual}
 use Rattle.products.specs.declared.products.Request.{Request}
 use Rattle.products.specs.Products.{isInYear, isInTime}
 use Rattle.request_decision.specs.RequestQuestions.{requestFields}
-use Rattle.batches.specs.Batches.{Batch, linesOf, userOf, askedOf, lineFields}
-use Rattle.batches.specs.Shares.{proQuota}
-use Rattle.batches.specs.ConferBatch.{batchFields}
+use Rattle.shares.specs.Batches.{Batch, linesOf, userOf, askedOf, lineFields}
+use Rattle.shares.specs.Shares.{proQuota}
+use Rattle.shares.specs.ShareLines.{batchFields}
 use Rattle.cession_decision.specs.declared.deciding.Cession.{Cession}
 use Rattle.cession_decision.specs.CessionQuestions.{cessionFields, isInTime as isCessionInTime}
 use Rattle.reckoning.specs.Calls.{Call, openPoint, placeGuarantee, requestCapacity, conferBatch, cedeCapacity, turnYear, Answer}

@@ -14,7 +14,7 @@ use Rattle.register.specs.Fresh.{freshState}
 use Rattle.spans.specs.Spans.{annualFirst, annualLast}
 use Rattle.products.specs.declared.products.Request.{Request}
 use Rattle.products.specs.Products.{firstOf, lastOf}
-use Rattle.batches.specs.Batches.{linesOf}
+use Rattle.shares.specs.Batches.{linesOf}
 use Rattle.cession_decision.specs.declared.deciding.Cession.{Cession}
 use Rattle.reckoning.specs.Calls.{Call, openPoint, placeGuarantee, requestCapacity, conferBatch, cedeCapacity, turnYear, Answer, answers}
 

@@ -9,8 +9,8 @@ use Rattle.parts.specs.Limits.{pointCount}
 use Rattle.parts.specs.Registers.{State, state, pointAt}
 use Rattle.parts.specs.Points.{isOpen}
 use Rattle.order.specs.Order.{inOrder}
-use Rattle.batches.specs.Batches.{Batch, batch}
-use Rattle.batches.specs.ConferBatch.{batchFields}
+use Rattle.shares.specs.Batches.{Batch, batch}
+use Rattle.shares.specs.ShareLines.{batchFields}
 use Rattle.batches.proofs.LoopLaws.{batch-one, batch-two, batch-three, batch-thirteen, batch-zero}
 use borrow.Author.Needs.{needs}
 use Rattle.batches.proofs.conferring.batch_answer.Statement.{statement}

@@ -6,8 +6,9 @@ use Prim.Native.Nat.{ℕ}
 use lib.ListN.{length}
 use Rattle.parts.specs.Registers.{State, state}
 use Rattle.parts.proofs.AnswerLaws.{zero-number, some-number, leaves-old}
-use Rattle.batches.specs.Batches.{Batch, batch}
-use Rattle.batches.specs.ConferBatch.{batchNumber, sharesOf, numbersOf}
+use Rattle.shares.specs.Batches.{Batch, batch}
+use Rattle.shares.specs.ShareLines.{sharesOf, numbersOf}
+use Rattle.batches.specs.ConferBatch.{batchNumber}
 use Rattle.batches.proofs.AnswerLaws.{refused-after}
 use Rattle.batches.proofs.LoopLaws.{left-new, left-after}
 use borrow.Author.Needs.{needs}

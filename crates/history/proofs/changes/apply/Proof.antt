@@ -2,7 +2,7 @@
 -- Assumes nothing.
 use mathlib.Core.Path.{refl, _∙_}
 use Rattle.parts.specs.Registers.{State, state}
-use Rattle.batches.specs.Batches.{batch}
+use Rattle.shares.specs.Batches.{batch}
 use Rattle.history.specs.declared.changes.Change.the-variants.{OpenPoint, PlaceGuarantee, RequestCapacity, ConferBatch, CedeCapacity, TurnYear}
 use Rattle.applied.proofs.AppliedLaws.{register-now}
 use Rattle.history.proofs.ChangeLaws.{shares-as, numbers-as, found}

@@ -1,0 +1,4 @@
+pub mod Batches
+pub mod Shares
+pub mod ShareLines
+pub mod Steps
