@@ -1,6 +1,6 @@
 -- Laws of the ledger's lines: what is written to a line is read back from it, and the other lines are unchanged.
 -- Assumes nothing.
-use Prim.Native.Nat.{ℕ, _+_, _*_, _/_}
+use Prim.Native.Nat.{ℕ, _+_, _*_, _/_, _≤_}
 use mathlib.Core.Bool.{Bool, true, false}
 use mathlib.Core.List.{List}
 use mathlib.Core.Logic.{_≢_}
@@ -8,13 +8,13 @@ use mathlib.Core.Path.{_≡_, refl, ap, _∙_}
 use native.Mathlib.Omega.{arith}
 use lib.ListN.{getD, set, length, length-set}
 use lib.Seq.{getD-set-same, getD-set-other}
-use borrow.Author.Tests.{ltb-true, lt-ltb}
+use borrow.Author.Tests.{ltb-true, lt-ltb, le-ltb}
 use mir.Syntax.{w32}
 use mir.Val.{SFits}
 use mir.Facts.{toZ-ofZ}
 use Rattle.ledger.specs.declared.ledger.Line.{Line}
 use Rattle.parts.specs.Limits.{lineLength}
-use Rattle.ledger.specs.Ledger.{Holds, signedOf, bitsOf, hasLine, fieldsAt, withFields, lineAt, withLine}
+use Rattle.ledger.specs.Ledger.{Holds, signedOf, bitsOf, hasLine, fieldsAt, withFields, noLine, lineAt, withLine}
 
 -- the test of a line is true just where the line lies in the list
 pub holds-true : (ls : List ℕ) (i : ℕ) → Holds ls i → hasLine ls i ≡ true
@@ -31,6 +31,11 @@ line-in ls i h = rw (holds-true ls i h)
 with-in : (ls : List ℕ) (i : ℕ) (l : Line) → Holds ls i → withLine ls i l ≡ withFields ls i l
 unfolding withLine
 with-in ls i l h = rw (holds-true ls i h)
+
+-- past the end a line is read as zeros
+pub line-out : (ls : List ℕ) (i : ℕ) → length ls / lineLength ≤ i → lineAt ls i ≡ noLine
+unfolding lineAt
+line-out ls i h = rw (le-ltb i (length ls / lineLength) h)
 
 -- the length is unchanged
 fields-length : (ls : List ℕ) (i : ℕ) (l : Line) → length (withFields ls i l) ≡ length ls

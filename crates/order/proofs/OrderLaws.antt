@@ -3,7 +3,7 @@
 use mathlib.Core.Path.{_≡_, refl, sym, ap, ap₂, _∙_, subst}
 use mathlib.Core.Bool.{Bool, true, false, not, _&&_, _||_, false≢true, and-comm, or-true, or-false}
 use mathlib.Core.List.{List, [], _∷_}
-use Prim.Native.Nat.{ℕ, _+_, _*_, _-_, _≤_, _<_}
+use Prim.Native.Nat.{ℕ, _+_, _*_, _-_, _/_, _≤_, _<_}
 use native.Mathlib.Decide.{ℕ-discrete}
 use native.Mathlib.Omega.{arith}
 use lib.Dec.{leb, ltb, eqb}
@@ -19,15 +19,16 @@ use Rattle.parts.specs.declared.points.Point.{Point}
 use Rattle.parts.specs.declared.accounts.Account.{Account}
 use Rattle.ledger.specs.declared.ledger.Line.{Line}
 use Rattle.parts.specs.declared.registers.Register.{Register}
-use Rattle.parts.specs.Limits.{pointCount, userCount, lineCount, rowLength, tableLength, ledgerLength}
+use Rattle.parts.specs.Limits.{pointCount, userCount, lineLength, lineCount, rowLength, tableLength, ledgerLength}
 use Rattle.parts.specs.Tests.{allBelow, someBelow, every}
 use Rattle.parts.specs.Registers.{State, pointAt, accountAt}
-use Rattle.ledger.specs.Ledger.{lineAt}
+use Rattle.ledger.specs.Ledger.{noLine, lineAt}
 use Rattle.amounts.specs.Amounts.{yearDays, entryAt, capacity}
 use Rattle.parts.specs.Points.{isOpen}
 use Rattle.parts.specs.Accounts.{isOnFile}
 use Rattle.order.specs.Order.{amountOk, amountFits, rowOk, opensMonth, isMonthFirst, namesOk, lineTests, lineOk, lineTest, linesOk, lengthsOk, pointsOk, accountsOk, tableOk, orderTests, inOrder}
 use Rattle.order.specs.Steps.{atMost, Marked, fieldTests, namedTests}
+use Rattle.ledger.proofs.LedgerLaws.{line-out}
 use Rattle.parts.proofs.TestLaws.{and-false, every-at, every-false, all-more, all-same, all-fails, some-none, some-more}
 use Rattle.amounts.proofs.CalendarLaws.{YearFacts, year-facts, thermal-year}
 use Rattle.amounts.proofs.AmountLaws.{capacity-in}
@@ -195,6 +196,17 @@ module _ (r : Register) (ls : List ℕ) (i : ℕ) (l : Line) (first last : ℕ) 
 pub lines-fail : (r : Register) (ls : List ℕ) (i : ℕ) → i < r .lines → lineTest r ls i ≡ false → false ≡ linesOk r ls
 unfolding linesOk
 lines-fail r ls i l h = sym (all-fails (lineTest r ls) (r .lines) i l h)
+
+-- a ledger that lacks a used line: such a line is read as zeros, and 0 is no kind
+pub lines-short : (r : Register) (ls : List ℕ) → length ls / lineLength < r .lines → false ≡ linesOk r ls
+unfolding lineOk
+lines-short r ls h =
+    lines-fail r ls end h
+    (ap (lineOk (r .year) (r .points) (r .accounts)) (line-out ls end (omega arith))
+    ∙ every-false (lineTests (accountAt (r .accounts) 0) (pointAt (r .points) 0) (thermalFirst (r .year)) (thermalLast (r .year)) (isMonthFirst (r .year) 0) noLine) 2 refl)
+  where
+    end : ℕ
+    end = length ls / lineLength
 
 -- ---- the whole question
 

@@ -19,6 +19,7 @@ use ledger::line_at;
 use parts::Account;
 use parts::LEAST_SIGNED;
 use parts::LEDGER;
+use parts::LINE;
 use parts::LINES;
 use parts::MOST_SIGNED;
 use parts::POINTS;
@@ -150,6 +151,10 @@ fn lines_in_order(r: Register, ledger: &[u32], first: u16, last: u16) -> bool
     let n = r.lines as usize;
     let from = first as u32;
     let marks = month_marks(r.year, first);
+    // The lengths were asked before. Asked again here, the compiler leaves what `line_at` asks out of the loop.
+    if ledger.len() / LINE < n {
+        return false;
+    }
     let mut i: usize = 0;
     while i < n {
         let l = line_at(ledger, i);
