@@ -29,7 +29,7 @@ use Rattle.conferral.proofs.PostingLaws.{own-user, room-facts, posted-booked, a
 use Rattle.spans.specs.Spans.{spanFits, spanInYear}
 use Rattle.spans.proofs.SpanLaws.{span-fits}
 use Rattle.shares.specs.Batches.{Batch, linesOf, grantFor}
-use Rattle.shares.specs.ShareLines.{batchFields, sharesOf, numbersOf, sharesLeft, numbersLeft}
+use Rattle.shares.specs.ShareLines.{batchFields, sharesOf, numbersOf, sharesListed, numbersListed}
 use Rattle.shares.proofs.CanShareLaws.{shares-left, numbers-left}
 use Rattle.batches.specs.ConferBatch.{batchNumber, batchAfter, bookedLines}
 use Rattle.batches.specs.Steps.{grantTo, bookSome}
@@ -151,10 +151,10 @@ post-most n x y p g l l′ m amount e = go (roomFor n x p g) refl
 
 -- ---- the shares and the numbers of an accepted batch
 module _ (r : Register) (f l : List ℕ) (b : Batch) (shares numbers : List ℕ) (h : batchNumber (state r f l) b (length shares) (length numbers) ≡ 0) (list : List ℕ) where
-  pub shares-told : list ≡ sharesLeft r f b shares numbers → list ≡ sharesOf (state r f l) b
+  pub shares-told : list ≡ sharesListed r f b shares numbers → list ≡ sharesOf (state r f l) b
   shares-told e = e ∙ shares-left r f b shares numbers (can-share (state r f l) b (length shares) (length numbers) h) l
 
-  pub numbers-told : list ≡ numbersLeft r f b shares numbers → list ≡ numbersOf (state r f l) b
+  pub numbers-told : list ≡ numbersListed r f b shares numbers → list ≡ numbersOf (state r f l) b
   numbers-told e = e ∙ numbers-left r f b shares numbers (can-share (state r f l) b (length shares) (length numbers) h) l
 
 -- what an accepted batch leaves

@@ -1,4 +1,4 @@
--- Document 01, "The changing calls": the questions put to a cession.
+-- Document 01, "Questions put to a call": the questions put to a cession, in their order.
 -- Assumes nothing.
 use Prim.Native.Nat.{ℕ}
 use mathlib.Core.Bool.{Bool, not, _&&_}

@@ -1,5 +1,5 @@
 -- Document 01, "The register": the ledger's lines. The lent ledger has five numbers for each line in turn: user, point, kind,
--- first day and amount, the amount as the 32 bits of a signed number. Nothing else knows this layout.
+-- first day and amount, the amount as the 32 bits of a signed number. Nothing else knows where a field stands.
 -- Assumes nothing.
 use Prim.Native.Nat.{ℕ, _+_, _*_, _-_, _/_, _≤_}
 use mathlib.Core.Bool.{Bool, cond}

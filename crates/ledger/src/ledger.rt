@@ -1,4 +1,4 @@
-// The lent ledger: five numbers for each line, in turn. Nothing outside this file knows the layout.
+// The lent ledger: five numbers for each line, in turn. Nothing outside this file knows where a field stands in a line.
 ghost use mathlib.Core.Path.{_≡_};
 ghost use Rattle.ledger.specs.Ledger.{Holds, signedOf, bitsOf, hasLine, fieldsAt, withFields, lineAt, withLine};
 use parts::LINE;

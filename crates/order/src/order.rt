@@ -151,7 +151,7 @@ fn lines_in_order(r: Register, ledger: &[u32], first: u16, last: u16) -> bool
     let n = r.lines as usize;
     let from = first as u32;
     let marks = month_marks(r.year, first);
-    // The lengths were asked before. Asked again here, the compiler leaves what `line_at` asks out of the loop.
+    // The lengths were asked before. Because of this question the compiler takes that of `line_at` out of the loop.
     if ledger.len() / LINE < n {
         return false;
     }

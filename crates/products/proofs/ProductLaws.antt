@@ -7,7 +7,7 @@ use native.Mathlib.Omega.{arith}
 use borrow.Author.Tests.{le-leb}
 use Rattle.calendar.specs.declared.thermal_years.Span.the-variants.{OutsideCalendar}
 use Rattle.days.specs.Days.{between}
-use Rattle.calendar.specs.ThermalYears.{isThermalYear, isThermalMonth, calendarYear, calendarMonth, thermalMonthFirst, thermalMonthLast}
+use Rattle.calendar.specs.ThermalYears.{isThermalYear, isThermalMonth, calendarYear, calendarMonth}
 use Rattle.calendar.specs.Answers.{monthAnswer}
 use Rattle.days.proofs.Ranges.{both, month-of-test}
 use Rattle.days.proofs.DateLaws.{month-least}
@@ -16,7 +16,7 @@ use Rattle.spans.specs.Spans.{arrives, spanFits, annualAnswer}
 use Rattle.spans.proofs.SpanLaws.{span-fits, arrival-year, timely-own, timely-preceding}
 use Rattle.products.specs.declared.products.Product.{Product}
 use Rattle.products.specs.declared.products.Product.the-variants.{Annual, Month, Day}
-use Rattle.products.specs.Products.{monthOk, deadline, isInTime, spanAnswer, timeAnswer}
+use Rattle.products.specs.Products.{firstOf, lastOf, monthOk, deadline, isInTime, spanAnswer, timeAnswer}
 use Rattle.products.specs.Steps.{daySpan}
 
 month-in : (y a m : ℕ) → arrives y a ≡ true → between 1 12 m ≡ true → isThermalMonth y m ≡ true
@@ -46,13 +46,12 @@ month-span y a m k e h = go (between 1 12 m) refl
     go true b =
         let t = month-in y a m h b in
         let w = month-of-test 2098 y m t in
-        let f : spanFits y (thermalMonthFirst y m) (thermalMonthLast y m) ≡ true =
-        span-fits y (thermalMonthFirst y m) (thermalMonthLast y m)
-        (record {
-          begins = thermal-month-from y m w;
-          ordered = omega (arith, month-days y m, month-least (calendarYear y m) (calendarMonth m));
-          ends = thermal-month-to y m w;
-        }) in
+        let from = thermal-month-from y m w in
+        let to = thermal-month-to y m w in
+        let some = month-least (calendarYear y m) (calendarMonth m) in
+        let f : spanFits y (firstOf y a (Month m)) (lastOf y a (Month m)) ≡ true =
+        span-fits y (firstOf y a (Month m)) (lastOf y a (Month m))
+        (record { begins = omega (arith, from); ordered = omega (arith, month-days y m, some, to); ends = omega (arith, to) }) in
         rw (e, h, t, b, f)
     go false b = rw (e, arrival-year y a h, b)
 

@@ -59,7 +59,7 @@ isInTime y a Annual = inTimeOwn a deadline
 isInTime y a (Month m) = inTimePreceding a y m deadline
 isInTime y a (Day d) = ltb a d
 
--- ---- the same for any numbers, also for those that earlier questions let not pass
+-- ---- the same for any numbers, also for those that earlier questions do not let pass
 -- the span of a product, where question 8 is answered yes and a month is one of the year's
 unfoldable pub spanAnswer : ℕ → ℕ → Product → Span
 spanAnswer y a k = spanWhere (monthOk k && isInYear y a k) (firstOf y a k) (lastOf y a k)

@@ -15,7 +15,7 @@ use Rattle.parts.specs.Limits.{pointCount, tableLength}
 use Rattle.parts.specs.Registers.{State, state}
 use Rattle.shares.specs.Batches.{Batch, linesOf}
 use Rattle.shares.specs.Shares.{freeOfYear, shareOf, numberOfLine}
-use Rattle.shares.specs.ShareLines.{mostLines, lengthsFit, batchFields, sharesOf, numbersOf, canShare, sharesLeft, numbersLeft}
+use Rattle.shares.specs.ShareLines.{mostLines, lengthsFit, batchFields, sharesOf, numbersOf, canShare, sharesListed, numbersListed}
 use Rattle.shares.proofs.ShareLaws.{list-length}
 
 -- ---- question 2 of a batch as a whole
@@ -68,22 +68,22 @@ module _ (r : Register) (f : List ℕ) (b : Batch) (m n : ℕ) where
 module _ (r : Register) (f : List ℕ) (b : Batch) (shares numbers : List ℕ) where
   -- shared out, and then by any ledger
   module _ (h : canShare r f b (length shares) (length numbers) ≡ true) where
-    pub shares-left : (l : List ℕ) → sharesLeft r f b shares numbers ≡ sharesOf (state r f l) b
-    unfolding sharesLeft sharesOf shareOf freeOfYear
+    pub shares-left : (l : List ℕ) → sharesListed r f b shares numbers ≡ sharesOf (state r f l) b
+    unfolding sharesListed sharesOf shareOf freeOfYear
     shares-left l = rw h
 
-    pub numbers-left : (l : List ℕ) → numbersLeft r f b shares numbers ≡ numbersOf (state r f l) b
-    unfolding numbersLeft numbersOf numberOfLine shareOf freeOfYear
+    pub numbers-left : (l : List ℕ) → numbersListed r f b shares numbers ≡ numbersOf (state r f l) b
+    unfolding numbersListed numbersOf numberOfLine shareOf freeOfYear
     numbers-left l = rw h
 
   -- or as they were
   module _ (h : canShare r f b (length shares) (length numbers) ≡ false) where
-    pub shares-kept : shares ≡ sharesLeft r f b shares numbers
-    unfolding sharesLeft
+    pub shares-kept : shares ≡ sharesListed r f b shares numbers
+    unfolding sharesListed
     shares-kept = rw h
 
-    pub numbers-kept : numbers ≡ numbersLeft r f b shares numbers
-    unfolding numbersLeft
+    pub numbers-kept : numbers ≡ numbersListed r f b shares numbers
+    unfolding numbersListed
     numbers-kept = rw h
 
 -- ---- one share for each line

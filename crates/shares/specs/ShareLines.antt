@@ -38,10 +38,10 @@ canShare r free b m n = isThermalYear (r .year) && eqb (length free) tableLength
 
 -- what the two lists hold afterwards: shares and numbers, or what they held before. The ledger tells nothing of either,
 -- so any will do
-unfoldable pub sharesLeft : Register → List ℕ → Batch → List ℕ → List ℕ → List ℕ
-sharesLeft r free b shares numbers =
+unfoldable pub sharesListed : Register → List ℕ → Batch → List ℕ → List ℕ → List ℕ
+sharesListed r free b shares numbers =
     cond (canShare r free b (length shares) (length numbers)) (sharesOf (state r free []) b) shares
 
-unfoldable pub numbersLeft : Register → List ℕ → Batch → List ℕ → List ℕ → List ℕ
-numbersLeft r free b shares numbers =
+unfoldable pub numbersListed : Register → List ℕ → Batch → List ℕ → List ℕ → List ℕ
+numbersListed r free b shares numbers =
     cond (canShare r free b (length shares) (length numbers)) (numbersOf (state r free []) b) numbers

@@ -8,7 +8,7 @@ ghost use Rattle.parts.specs.Limits.{pointCount, tableLength};
 ghost use Rattle.amounts.specs.Amounts.{yearDays, entryAt};
 ghost use Rattle.shares.specs.Batches.{batch};
 ghost use Rattle.shares.specs.Shares.{smallest};
-ghost use Rattle.shares.specs.ShareLines.{lengthsFit, sharesLeft, numbersLeft};
+ghost use Rattle.shares.specs.ShareLines.{lengthsFit, sharesListed, numbersListed};
 use crate::lines::ask_lines;
 use crate::sharing::share_out;
 use crate::sharing::sum_asked;
@@ -45,9 +45,9 @@ pub fn share_lines(
     shares: &mut [u32],
     numbers: &mut [u8],
 )
-    ensures shares { λ _. ⌜ now (shares .exit) ≡ sharesLeft r (now (free .entry)) (batch point (now (users .entry)) (now (asked .entry)))
+    ensures shares { λ _. ⌜ now (shares .exit) ≡ sharesListed r (now (free .entry)) (batch point (now (users .entry)) (now (asked .entry)))
         (now (shares .entry)) (now (numbers .entry)) ⌝ }
-    ensures numbers { λ _. ⌜ now (numbers .exit) ≡ numbersLeft r (now (free .entry)) (batch point (now (users .entry)) (now (asked .entry)))
+    ensures numbers { λ _. ⌜ now (numbers .exit) ≡ numbersListed r (now (free .entry)) (batch point (now (users .entry)) (now (asked .entry)))
         (now (shares .entry)) (now (numbers .entry)) ⌝ }
 {
     let year = calendar::is_thermal_year(r.year);

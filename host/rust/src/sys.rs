@@ -436,8 +436,10 @@ pub fn in_order(r: &Register, free: &[u32], ledger: &[u32]) -> bool {
 }
 
 /// Question 10: the first gas-day of the span on which the user holds less than
-/// the amount. In a register that is not in order a line counts only where it
-/// begins in the year.
+/// the amount. It is not asked whether the register is in order. Where it is not,
+/// a line counts only where it begins in the year, none after the 2,048th does, a
+/// line of an unknown kind counts as a day line, and lines that the ledger does not
+/// have whole count nothing.
 pub fn first_short_day(year: u16, lines: u16, ledger: &[u32], h: Holding) -> Option<u16> {
     let day =
         unsafe { raw::ylgrandi_first_short_day(year, lines, ledger.as_ptr(), ledger.len(), h) };

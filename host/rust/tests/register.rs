@@ -182,7 +182,7 @@ PointOpen: the point is open already
 NotOnFile: a user named is not on file
 BelowCommitment: the new guarantee is below the commitment
 NotOffered: the kind of product is not offered at the point
-OutsideYear: the arrival or the span lies outside the year
+OutsideYear: the arrival lies outside its limits, or the span outside the year
 Late: not in time
 NotHeld: the giver does not hold the amount on every day
 NotCovered: the guarantee does not cover commitment plus charge
