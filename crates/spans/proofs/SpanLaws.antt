@@ -6,7 +6,9 @@ use Prim.Native.Nat.{ℕ, _+_, _≤_, _<_}
 use native.Mathlib.Omega.{arith}
 use lib.Dec.{leb}
 use borrow.Author.Tests.{leb-true, leb-false, le-leb, lt-leb}
+use Rattle.calendar.specs.declared.thermal_years.Span.the-variants.{Days, OutsideCalendar}
 use Rattle.calendar.specs.declared.deadlines.Timeliness.the-variants.{InTime, Late}
+use Rattle.days.specs.declared.dates.GasDay.{GasDay}
 use Rattle.days.specs.declared.dates.GasDay.the-variants.{Day, OutsideCalendar as NoDay}
 use Rattle.days.specs.Days.{lastDay, between, monthLength, dayNumber}
 use Rattle.calendar.specs.ThermalYears.{isThermalYear, thermalFirst, thermalLast, isThermalMonth}
@@ -23,6 +25,13 @@ use Rattle.spans.specs.Steps.{spanFrom}
 pub september : (y : ℕ) → thermalFirst y ≡ dayNumber y 9 1 + 30
 unfolding monthLength
 september y = let n : monthLength y 9 ≡ 30 = refl in omega (arith, month-next y 9 (omega arith), n)
+
+-- from a day to the last of those from first to last: it is one of them, or there is no span
+pub from-day : (g : GasDay) (d first last : ℕ) → g ≡ Day d → between first last d ≡ true → Days d last ≡ spanFrom g first last
+from-day g d first last e h = rw (e, h)
+
+pub from-none : (g : GasDay) (d first last : ℕ) → g ≡ Day d → between first last d ≡ false → OutsideCalendar ≡ spanFrom g first last
+from-none g d first last e h = rw (e, h)
 
 -- the span to the year's end, from the first of the next month as the calendar answers it
 pub annual-from : (y a : ℕ) → isThermalYear y ≡ true → spanFrom (nextFirstAnswer a) (thermalFirst y) (thermalLast y) ≡ annualAnswer y a

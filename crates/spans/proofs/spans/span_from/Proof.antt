@@ -1,3 +1,4 @@
+use Rattle.spans.proofs.SpanLaws.{from-day, from-none}
 use borrow.Author.Needs.{needs}
 use Rattle.spans.proofs.spans.span_from.Statement.{statement}
 use Rattle.spans.proofs.spans.span_from.Tie as tie
@@ -9,10 +10,10 @@ enum-told : tie.Need-enum-told
 enum-told c = search needs
 
 returns : tie.Need-returns
-returns c = rw (c .before .before .day .given .1, c .if1 .taken)
+returns c = from-day _ _ _ _ (c .before .before .day .given .1) (c .if1 .taken)
 
 returns-2 : tie.Need-returns-2
-returns-2 c = rw (c .before .before .day .given .1, c .if1 .left)
+returns-2 c = from-none _ _ _ _ (c .before .before .day .given .1) (c .if1 .left)
 
 returns-3 : tie.Need-returns-3
 returns-3 c = search needs
