@@ -3,13 +3,13 @@ ghost use mathlib.Core.Path.{_≡_};
 ghost use Rattle.parts.specs.Registers.{state};
 ghost use Rattle.parts.specs.Answers.{numberOfVerdict};
 ghost use Rattle.register.specs.Fresh.{freshNumber, freshAfter};
-use amounts::clear;
 use parts::Filed;
 use parts::LEDGER;
 use parts::Refusal;
 use parts::TABLE;
 use parts::Verdict;
 use parts::blank;
+use tables::clear;
 
 // Are the year and the lengths of both lists within limits?
 fn fresh_answer(year: u16, free: &[u32], ledger: &[u32]) -> Verdict

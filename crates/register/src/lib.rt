@@ -6,13 +6,8 @@
 mod fresh;
 mod reports;
 
-pub use amounts::clear;
 pub use amounts::days_of_year;
 pub use amounts::entry_in;
-pub use amounts::free_row;
-pub use amounts::free_table;
-pub use amounts::least_free;
-pub use amounts::take_free;
 pub use fresh::fresh_register;
 pub use ledger::Line;
 pub use ledger::line_at;
@@ -45,3 +40,8 @@ pub use parts::report_amount;
 pub use parts::report_number;
 pub use parts::verdict_number;
 pub use reports::report_free;
+pub use tables::clear;
+pub use tables::free_row;
+pub use tables::free_table;
+pub use tables::least_free;
+pub use tables::take_free;

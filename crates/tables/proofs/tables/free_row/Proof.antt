@@ -1,7 +1,7 @@
 use Rattle.amounts.proofs.AmountLaws.{row-of-runs}
 use borrow.Author.Needs.{needs}
-use Rattle.amounts.proofs.amounts.free_row.Statement.{statement}
-use Rattle.amounts.proofs.amounts.free_row.Tie as tie
+use Rattle.tables.proofs.tables.free_row.Statement.{statement}
+use Rattle.tables.proofs.tables.free_row.Tie as tie
 
 mul-at : tie.Need-mul-at
 mul-at c = search needs

@@ -1,12 +1,12 @@
 use mathlib.Core.Path.{_≡_, refl}
 use Prim.Native.Nat.{_-_, _≤_}
 use lib.ListN.{length, length-set}
 use Rattle.amounts.specs.Ranges.{replaced}
 use Rattle.amounts.proofs.RangeLaws.{replaced-none, replaced-step, replaced-done}
 use native.Mathlib.Omega.{arith}
 use borrow.Author.Needs.{needs}
-use Rattle.amounts.proofs.amounts.fill.Statement.{statement}
-use Rattle.amounts.proofs.amounts.fill.Tie as tie
+use Rattle.tables.proofs.tables.fill.Statement.{statement}
+use Rattle.tables.proofs.tables.fill.Tie as tie
 
 abbrev Inv-loop : tie.InvT-loop
 Inv-loop list₀ at n v within k₀ list k =

@@ -1,14 +1,14 @@
 use mathlib.Core.Path.{_≡_, refl}
 use Prim.Native.Nat.{_-_, _≤_}
 use lib.ListN.{length, length-set}
 use Rattle.amounts.specs.Ranges.{replaced}
 use Rattle.amounts.specs.Amounts.{lessBy, taken}
 use Rattle.amounts.proofs.RangeLaws.{replaced-none, replaced-done}
 use Rattle.amounts.proofs.AmountLaws.{taken-step}
 use native.Mathlib.Omega.{arith}
 use borrow.Author.Needs.{needs}
-use Rattle.amounts.proofs.amounts.take_free.Statement.{statement}
-use Rattle.amounts.proofs.amounts.take_free.Tie as tie
+use Rattle.tables.proofs.tables.take_free.Statement.{statement}
+use Rattle.tables.proofs.tables.take_free.Tie as tie
 
 abbrev Inv-loop : tie.InvT-loop
 Inv-loop free₀ at n amount within k₀ free k =

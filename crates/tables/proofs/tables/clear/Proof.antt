@@ -1,12 +1,12 @@
 use mathlib.Core.Path.{_≡_, refl, _∙_}
 use Prim.Native.Nat.{_-_, _≤_}
 use lib.ListN.{length, length-set}
 use Rattle.amounts.specs.Ranges.{replaced}
 use Rattle.amounts.proofs.RangeLaws.{step-from-start, replaced-none, replaced-end, replaced-all}
 use native.Mathlib.Omega.{arith}
 use borrow.Author.Needs.{needs}
-use Rattle.amounts.proofs.amounts.clear.Statement.{statement}
-use Rattle.amounts.proofs.amounts.clear.Tie as tie
+use Rattle.tables.proofs.tables.clear.Statement.{statement}
+use Rattle.tables.proofs.tables.clear.Tie as tie
 
 abbrev Inv-loop : tie.InvT-loop
 Inv-loop list₀ k₀ list k = (k ≤ length list₀) × ((length list ≡ length list₀) × (list ≡ replaced list₀ 0 k (λ _. 0)))

@@ -1,11 +1,11 @@
 use mathlib.Core.Path.{_≡_, sym, ap, _∙_}
 use Prim.Native.Nat.{_-_, _≤_}
 use Rattle.amounts.specs.Ranges.{leastOf}
 use Rattle.amounts.proofs.RangeLaws.{least-none, least-step, least-past}
 use native.Mathlib.Omega.{arith}
 use borrow.Author.Needs.{needs}
-use Rattle.amounts.proofs.amounts.least_free.Statement.{statement}
-use Rattle.amounts.proofs.amounts.least_free.Tie as tie
+use Rattle.tables.proofs.tables.least_free.Statement.{statement}
+use Rattle.tables.proofs.tables.least_free.Tie as tie
 
 abbrev Inv-loop : tie.InvT-loop
 Inv-loop free at n most within least₀ k₀ least k = (k ≤ within) × (least ≡ leastOf free at k most)
