@@ -51,7 +51,7 @@ pub fn apply(
     ensures numbers { λ v. ⌜ now (numbers .exit) ≡ numbersLeft (callOf change (now (users .entry)) (now (asked .entry)) (length (now (shares .entry))) (length (now (numbers .entry)))) (answer (state r (now (free .entry)) (now (ledger .entry))) (callOf change (now (users .entry)) (now (asked .entry)) (length (now (shares .entry))) (length (now (numbers .entry))))) (now (numbers .entry)) ⌝ }
 {
     match change {
-        Change::OpenPoint(o) => applied::applied_filed(filing::open_point(
+        Change::OpenPoint(o) => applied::applied_filed(opening::open_point(
             r,
             free,
             &ledger[..],
@@ -60,7 +60,7 @@ pub fn apply(
             o.total,
             o.rate,
         )),
-        Change::PlaceGuarantee(g) => applied::applied_filed(filing::place_guarantee(
+        Change::PlaceGuarantee(g) => applied::applied_filed(placing::place_guarantee(
             r,
             &free[..],
             &ledger[..],
@@ -86,6 +86,6 @@ pub fn apply(
             ledger,
             c,
         )),
-        Change::TurnYear(year) => applied::applied_filed(filing::turn_year(r, free, ledger, year)),
+        Change::TurnYear(year) => applied::applied_filed(turning::turn_year(r, free, ledger, year)),
     }
 }

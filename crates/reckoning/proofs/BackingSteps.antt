@@ -29,10 +29,10 @@ use Rattle.ledger.specs.Ledger.{lineAt, lineLast}
 use Rattle.register.specs.Sound.{Sound}
 use Rattle.order.proofs.OrderFacts.{ordered, line-facts}
 use Rattle.order.proofs.OrderKept.{field-kept}
-use Rattle.filing.specs.OpenPoint.{openNumber, opened, openAfter}
-use Rattle.filing.specs.PlaceGuarantee.{placeNumber, pledged, placed, placeAfter}
+use Rattle.opening.specs.OpenPoint.{openNumber, opened, openAfter}
+use Rattle.placing.specs.PlaceGuarantee.{placeNumber, pledged, placed, placeAfter}
 use Rattle.turning.specs.TurnYear.{turnNumber, settledAt, settledAccounts, turned, turnAfter}
-use Rattle.filing.proofs.OpenLaws.{facts as open-facts}
+use Rattle.opening.proofs.OpenLaws.{facts as open-facts}
 use Rattle.turning.proofs.Kept.{settled-at}
 use Rattle.conferral.specs.declared.bookings.Grant.{Grant}
 use Rattle.conferral.specs.Bookings.{lineOf, booked, chargeOf as grantCharge}

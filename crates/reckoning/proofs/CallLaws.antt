@@ -8,16 +8,17 @@ use Rattle.parts.specs.Registers.{State}
 use Rattle.parts.specs.Answers.{Passes}
 use Rattle.parts.proofs.AnswerLaws.{passes, passed, leaves-new}
 use Rattle.register.specs.Sound.{Sound}
-use Rattle.filing.specs.OpenPoint.{openQuestions, openNumber, opened, openAfter}
-use Rattle.filing.specs.PlaceGuarantee.{placeQuestions, placeNumber, placed, placeAfter}
+use Rattle.opening.specs.OpenPoint.{openQuestions, openNumber, opened, openAfter}
+use Rattle.placing.specs.PlaceGuarantee.{placeQuestions, placeNumber, placed, placeAfter}
 use Rattle.turning.specs.TurnYear.{turnQuestions, turnNumber, turned, turnAfter}
 use Rattle.conferral.specs.Bookings.{booked}
 use Rattle.request_decision.specs.RequestQuestions.{grantOf}
-use Rattle.filing.proofs.OpenLaws.{open-old}
-use Rattle.filing.proofs.PlaceLaws.{place-old}
+use Rattle.opening.proofs.OpenLaws.{open-old}
+use Rattle.placing.proofs.PlaceLaws.{place-old}
 use Rattle.turning.proofs.TurnLaws.{turn-old}
 use Rattle.turning.proofs.Kept.{turn-keeps}
-use Rattle.filing.proofs.Kept.{open-keeps, place-keeps}
+use Rattle.opening.proofs.Kept.{open-keeps}
+use Rattle.placing.proofs.Kept.{place-keeps}
 use Rattle.requests.proofs.AnswerLaws.{answered-passes as request-passes, passes-answered as request-passed, accepted-amount as request-amount, accepted-after as request-new, refused-after as request-old}
 use Rattle.requests.proofs.ConferredLaws.{request-keeps}
 use Rattle.batches.proofs.AnswerLaws.{answered-passes as batch-passes, passes-answered as batch-passed, accepted-after as batch-new, refused-after as batch-old}

@@ -33,10 +33,11 @@ use Rattle.register.specs.Sound.{Sound}
 use Rattle.order.proofs.OrderFacts.{ordered}
 use Rattle.order.proofs.OrderKept.{point-same, account-same, account-other, field-kept}
 use Rattle.register.proofs.FreshKept.{fresh-sound}
-use Rattle.filing.specs.OpenPoint.{openQuestions, openNumber, opened, openAfter}
-use Rattle.filing.specs.PlaceGuarantee.{placeFields, placeQuestions, placeNumber, placed, placeAfter}
-use Rattle.filing.proofs.PlaceLaws.{fields-user}
-use Rattle.filing.proofs.Kept.{open-keeps, place-keeps}
+use Rattle.opening.specs.OpenPoint.{openQuestions, openNumber, opened, openAfter}
+use Rattle.placing.specs.PlaceGuarantee.{placeFields, placeQuestions, placeNumber, placed, placeAfter}
+use Rattle.placing.proofs.PlaceLaws.{fields-user}
+use Rattle.opening.proofs.Kept.{open-keeps}
+use Rattle.placing.proofs.Kept.{place-keeps}
 use Rattle.conferral.specs.Bookings.{covers}
 use Rattle.requests.specs.RequestCapacity.{requestNumber, requestAmount}
 use Rattle.requests.proofs.Cases.{p8, p8-late, p9, p10, p10-uncovered, p10-covered}

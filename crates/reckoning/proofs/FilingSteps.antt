@@ -22,14 +22,15 @@ use Rattle.parts.proofs.AnswerLaws.{leaves-new}
 use Rattle.amounts.proofs.CalendarLaws.{year-facts, day-within}
 use Rattle.register.specs.Sound.{Sound}
 use Rattle.order.proofs.OrderKept.{field-kept}
-use Rattle.filing.specs.OpenPoint.{openNumber, opened, openAfter}
-use Rattle.filing.specs.PlaceGuarantee.{placeNumber, pledged, placed, placeAfter}
+use Rattle.opening.specs.OpenPoint.{openNumber, opened, openAfter}
+use Rattle.placing.specs.PlaceGuarantee.{placeNumber, pledged, placed, placeAfter}
 use Rattle.turning.specs.TurnYear.{turnNumber, settledAt, settledAccounts, turned, turnAfter}
-use Rattle.filing.proofs.OpenLaws.{OpenFacts, facts as open-facts}
-use Rattle.filing.proofs.PlaceLaws.{facts as place-facts}
+use Rattle.opening.proofs.OpenLaws.{OpenFacts, facts as open-facts}
+use Rattle.placing.proofs.PlaceLaws.{facts as place-facts}
 use Rattle.turning.proofs.TurnLaws.{TurnFacts, facts as turn-facts}
 use Rattle.turning.proofs.Kept.{turn-keeps, settled-at}
-use Rattle.filing.proofs.Kept.{open-keeps, place-keeps}
+use Rattle.opening.proofs.Kept.{open-keeps}
+use Rattle.placing.proofs.Kept.{place-keeps}
 use Rattle.reckoning.specs.Reckoning.{Reckoning, put, grantedOn, cededBy, withOpen, withGuarantee, withNewYear}
 use Rattle.reckoning.proofs.Agreement.{Agree, open-below}
 

@@ -8,11 +8,11 @@ use borrow.Author.Tests.{leb-true, leb-false, ltb-true, ltb-false, not-true, not
 use Rattle.parts.specs.Registers.{State, accountAt}
 use Rattle.parts.proofs.AnswerLaws.{passes}
 use Rattle.parts.proofs.QuestionLaws.{refused-at}
-use Rattle.filing.specs.OpenPoint.{openQuestions, openNumber, openAfter}
-use Rattle.filing.specs.PlaceGuarantee.{placeQuestions, placeNumber, placeAfter}
+use Rattle.opening.specs.OpenPoint.{openQuestions, openNumber, openAfter}
+use Rattle.placing.specs.PlaceGuarantee.{placeQuestions, placeNumber, placeAfter}
 use Rattle.turning.specs.TurnYear.{turnQuestions, turnNumber, turnAfter}
-use Rattle.filing.proofs.OpenLaws.{open-old}
-use Rattle.filing.proofs.PlaceLaws.{place-old}
+use Rattle.opening.proofs.OpenLaws.{open-old}
+use Rattle.placing.proofs.PlaceLaws.{place-old}
 use Rattle.turning.proofs.TurnLaws.{turn-old}
 use Rattle.reckoning.specs.Calls.{openPoint, placeGuarantee, turnYear, answer}
 use Rattle.reckoning.specs.Reckoning.{Reckoning}

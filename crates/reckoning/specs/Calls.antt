@@ -5,8 +5,8 @@ use mathlib.Core.List.{List, [], _∷_}
 use Rattle.parts.specs.Registers.{State}
 use Rattle.parts.specs.Answers.{Question, leaves}
 use Rattle.register.specs.Fresh.{freshState}
-use Rattle.filing.specs.OpenPoint.{openQuestions, openNumber, opened, openAfter}
-use Rattle.filing.specs.PlaceGuarantee.{placeQuestions, placeNumber, placed, placeAfter}
+use Rattle.opening.specs.OpenPoint.{openQuestions, openNumber, opened, openAfter}
+use Rattle.placing.specs.PlaceGuarantee.{placeQuestions, placeNumber, placed, placeAfter}
 use Rattle.turning.specs.TurnYear.{turnQuestions, turnNumber, turned, turnAfter}
 use Rattle.conferral.specs.Bookings.{booked}
 use Rattle.products.specs.declared.products.Request.{Request}

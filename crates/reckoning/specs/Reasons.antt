@@ -12,8 +12,8 @@ use Rattle.parts.specs.Limits.{lineCount}
 use Rattle.amounts.specs.Ranges.{sumBelow}
 use Rattle.amounts.specs.Amounts.{spanDays, yearDays}
 use Rattle.parts.specs.Charges.{charge}
-use Rattle.filing.specs.OpenPoint.{openFields}
-use Rattle.filing.specs.PlaceGuarantee.{placeFields}
+use Rattle.opening.specs.OpenPoint.{openFields}
+use Rattle.placing.specs.PlaceGuarantee.{placeFields}
 use Rattle.spans.specs.Spans.{annualFirst, annualLast, spanOk}
 use Rattle.products.specs.declared.products.Product.the-variants.{Annual}
 use Rattle.products.specs.declared.products.Request.{Request}

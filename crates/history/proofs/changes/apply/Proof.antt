@@ -13,9 +13,9 @@ use Rattle.history.proofs.changes.apply.Reads as reads
 use Rattle.history.proofs.changes.apply.Lts as lts
 use Rattle.batches.proofs.confer_batch.Reads as confer-batch-reads
 use Rattle.cessions.proofs.cede_capacity.Reads as cede-capacity-reads
-use Rattle.filing.proofs.open_point.Reads as open-point-reads
-use Rattle.filing.proofs.place_guarantee.Reads as place-guarantee-reads
-use Rattle.filing.proofs.turn_year.Reads as turn-year-reads
+use Rattle.opening.proofs.open_point.Reads as open-point-reads
+use Rattle.placing.proofs.place_guarantee.Reads as place-guarantee-reads
+use Rattle.turning.proofs.turn_year.Reads as turn-year-reads
 use Rattle.applied.proofs.applied_ceded.Reads as applied-ceded-reads
 use Rattle.applied.proofs.applied_conferred.Reads as applied-conferred-reads
 use Rattle.applied.proofs.applied_filed.Reads as applied-filed-reads

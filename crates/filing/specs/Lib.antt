@@ -1,2 +1,0 @@
-pub mod OpenPoint
-pub mod PlaceGuarantee
