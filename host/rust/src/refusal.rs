@@ -65,7 +65,9 @@ impl Refusal {
             Refusal::NotOnFile => "a user named is not on file",
             Refusal::BelowCommitment => "the new guarantee is below the commitment",
             Refusal::NotOffered => "the kind of product is not offered at the point",
-            Refusal::OutsideYear => "the arrival lies outside its limits, or the span outside the year",
+            Refusal::OutsideYear => {
+                "the arrival lies outside its limits, or the span outside the year"
+            }
             Refusal::Late => "not in time",
             Refusal::NotHeld => "the giver does not hold the amount on every day",
             Refusal::NotCovered => "the guarantee does not cover commitment plus charge",
