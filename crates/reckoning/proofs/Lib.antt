@@ -17,4 +17,3 @@ pub mod BatchTreatment
 pub mod CessionTreatment
 pub mod Treatment
 pub mod Theorem
-pub mod Cases

@@ -48,8 +48,8 @@ use Rattle.batches.specs.ConferBatch.{batchNumber}
 use Rattle.batches.proofs.AnswerLaws.{passes-answered}
 use Rattle.shares.proofs.ShareLaws.{free-of-year-is, list-at}
 use Rattle.shares.proofs.Cases.{p11, p12}
 use Rattle.reckoning.specs.Calls.{Answer, toldBatch, placeGuarantee, conferBatch, answer, registerAfter}
-use Rattle.reckoning.specs.Cases.{opening, registerOfOne, ample, registerOfThree, annualOfTen, batchOfThree, batchOfTwo, ProvedCases}
+use Rattle.proved_cases.specs.Cases.{opening, registerOfOne, ample, registerOfThree, annualOfTen, batchOfThree, batchOfTwo, ProvedCases}
 
 -- ---- the register of the cases
 -- a user on file who has nothing committed
