@@ -30,7 +30,8 @@ fn batch_answer(
     shares: usize,
     numbers: usize,
 ) -> Verdict
-    ensures { λ v. ⌜ numberOfVerdict v ≡ batchNumber (state r (now (free .entry)) (now (ledger .entry))) (batch point (now (users .entry)) (now (asked .entry))) shares numbers ⌝ }
+    ensures { λ v. ⌜ numberOfVerdict v ≡ batchNumber (state r (now (free .entry)) (now (ledger .entry)))
+        (batch point (now (users .entry)) (now (asked .entry))) shares numbers ⌝ }
 {
     if !register::in_order(r, free, ledger) {
         return Verdict::Refused(Refusal::NotInOrder);
@@ -59,8 +60,10 @@ fn book_shares(
     users: &[u8],
     shares: &[u32],
 ) -> Register
-    requires { ⌜ (isThermalYear (r .year) ≡ true) × ((point < pointCount) × ((length (now shares) ≡ length (now users)) × (length (now users) ≤ mostLines))) ⌝ }
-    ensures { λ v. ⌜ state v (now (free .exit)) (now (ledger .exit)) ≡ bookSome (state r (now (free .entry)) (now (ledger .entry))) (r .year) point (now (users .entry)) (now (shares .entry)) (length (now (users .entry))) ⌝ }
+    requires { ⌜ (isThermalYear (r .year) ≡ true) × ((point < pointCount) ×
+        ((length (now shares) ≡ length (now users)) × (length (now users) ≤ mostLines))) ⌝ }
+    ensures { λ v. ⌜ state v (now (free .exit)) (now (ledger .exit)) ≡ bookSome (state r (now (free .entry)) (now (ledger .entry)))
+        (r .year) point (now (users .entry)) (now (shares .entry)) (length (now (users .entry))) ⌝ }
 {
     let p = r.points[point as usize];
     let whole = year_grant(r.year, 0, point, 0);
@@ -94,10 +97,14 @@ fn confer_lines(
     shares: &mut [u32],
     numbers: &mut [u8],
 ) -> Register
-    requires { ⌜ batchNumber (state r (now free) (now ledger)) (batch point (now users) (now asked)) (length (now shares)) (length (now numbers)) ≡ 0 ⌝ }
-    ensures state { λ v. ⌜ state v (now (free .exit)) (now (ledger .exit)) ≡ bookedLines (state r (now (free .entry)) (now (ledger .entry))) (batch point (now (users .entry)) (now (asked .entry))) (length (now (users .entry))) ⌝ }
-    ensures shares { λ v. ⌜ now (shares .exit) ≡ sharesOf (state r (now (free .entry)) (now (ledger .entry))) (batch point (now (users .entry)) (now (asked .entry))) ⌝ }
-    ensures numbers { λ v. ⌜ now (numbers .exit) ≡ numbersOf (state r (now (free .entry)) (now (ledger .entry))) (batch point (now (users .entry)) (now (asked .entry))) ⌝ }
+    requires { ⌜ batchNumber (state r (now free) (now ledger)) (batch point (now users) (now asked)) (length (now shares))
+        (length (now numbers)) ≡ 0 ⌝ }
+    ensures state { λ v. ⌜ state v (now (free .exit)) (now (ledger .exit)) ≡ bookedLines (state r (now (free .entry)) (now (ledger .entry)))
+        (batch point (now (users .entry)) (now (asked .entry))) (length (now (users .entry))) ⌝ }
+    ensures shares { λ v. ⌜ now (shares .exit) ≡ sharesOf (state r (now (free .entry)) (now (ledger .entry)))
+        (batch point (now (users .entry)) (now (asked .entry))) ⌝ }
+    ensures numbers { λ v. ⌜ now (numbers .exit) ≡ numbersOf (state r (now (free .entry)) (now (ledger .entry)))
+        (batch point (now (users .entry)) (now (asked .entry))) ⌝ }
 {
     shares::share_lines(r, &free[..], point, users, asked, shares, numbers);
     book_shares(r, free, ledger, point, users, &shares[..])
@@ -115,10 +122,15 @@ pub fn confer_batch(
     shares: &mut [u32],
     numbers: &mut [u8],
 ) -> Filed
-    ensures number { λ a. ⌜ numberOfVerdict (a .answer) ≡ batchNumber (state r (now (free .entry)) (now (ledger .entry))) (batch point (now (users .entry)) (now (asked .entry))) (length (now (shares .entry))) (length (now (numbers .entry))) ⌝ }
-    ensures state { λ a. ⌜ state (a .register) (now (free .exit)) (now (ledger .exit)) ≡ batchAfter (state r (now (free .entry)) (now (ledger .entry))) (batch point (now (users .entry)) (now (asked .entry))) (length (now (shares .entry))) (length (now (numbers .entry))) ⌝ }
-    ensures shares { λ a. ⌜ now (shares .exit) ≡ sharesAfter (state r (now (free .entry)) (now (ledger .entry))) (batch point (now (users .entry)) (now (asked .entry))) (now (shares .entry)) (now (numbers .entry)) ⌝ }
-    ensures numbers { λ a. ⌜ now (numbers .exit) ≡ numbersAfter (state r (now (free .entry)) (now (ledger .entry))) (batch point (now (users .entry)) (now (asked .entry))) (now (shares .entry)) (now (numbers .entry)) ⌝ }
+    ensures number { λ a. ⌜ numberOfVerdict (a .answer) ≡ batchNumber (state r (now (free .entry)) (now (ledger .entry)))
+        (batch point (now (users .entry)) (now (asked .entry))) (length (now (shares .entry))) (length (now (numbers .entry))) ⌝ }
+    ensures state { λ a. ⌜ state (a .register) (now (free .exit)) (now (ledger .exit)) ≡ batchAfter
+        (state r (now (free .entry)) (now (ledger .entry))) (batch point (now (users .entry)) (now (asked .entry)))
+        (length (now (shares .entry))) (length (now (numbers .entry))) ⌝ }
+    ensures shares { λ a. ⌜ now (shares .exit) ≡ sharesAfter (state r (now (free .entry)) (now (ledger .entry)))
+        (batch point (now (users .entry)) (now (asked .entry))) (now (shares .entry)) (now (numbers .entry)) ⌝ }
+    ensures numbers { λ a. ⌜ now (numbers .exit) ≡ numbersAfter (state r (now (free .entry)) (now (ledger .entry)))
+        (batch point (now (users .entry)) (now (asked .entry))) (now (shares .entry)) (now (numbers .entry)) ⌝ }
 {
     let answer = batch_answer(
         r,

@@ -16,7 +16,8 @@ use register::Register;
 
 // The register with a charge moved from the commitment of the giver to that of the receiver, and two lines more.
 fn moved_register(r: Register, c: Cession, charge: u64) -> Register
-    requires { ⌜ (cessionFields c ≡ true) × ((receiverOf r c .guarantee ≤ mostGuarantee) × ((covers (receiverOf r c) charge ≡ true) × (r .lines + 2 ≤ lineCount))) ⌝ }
+    requires { ⌜ (cessionFields c ≡ true) × ((receiverOf r c .guarantee ≤ mostGuarantee) ×
+        ((covers (receiverOf r c) charge ≡ true) × (r .lines + 2 ≤ lineCount))) ⌝ }
     ensures { λ v. ⌜ v ≡ withLines (chargeMoved r c charge) (r .lines + 2) ⌝ }
 {
     let mut s = r;
@@ -57,7 +58,8 @@ fn write_two_lines(ledger: &mut [u32], n: u16, before: Line, after: Line)
 pub fn cede_capacity(r: Register, free: &mut [u32], ledger: &mut [u32], c: Cession) -> Ceded
     ensures number { λ a. ⌜ numberOfAnswer (a .answer) ≡ cessionNumber (state r (now (free .entry)) (now (ledger .entry))) c ⌝ }
     ensures amount { λ a. ⌜ amountOfAnswer (a .answer) ≡ cessionAmount (state r (now (free .entry)) (now (ledger .entry))) c ⌝ }
-    ensures state { λ a. ⌜ state (a .register) (now (free .exit)) (now (ledger .exit)) ≡ cessionAfter (state r (now (free .entry)) (now (ledger .entry))) c ⌝ }
+    ensures state { λ a. ⌜ state (a .register) (now (free .exit)) (now (ledger .exit)) ≡ cessionAfter
+        (state r (now (free .entry)) (now (ledger .entry))) c ⌝ }
 {
     let decision = cession_decision::decide(r, &free[..], &ledger[..], c);
     match decision {

@@ -44,11 +44,21 @@ pub fn apply(
     shares: &mut [u32],
     numbers: &mut [u8],
 ) -> Applied
-    ensures number { λ v. ⌜ v .number ≡ answer (state r (now (free .entry)) (now (ledger .entry))) (callOf change (now (users .entry)) (now (asked .entry)) (length (now (shares .entry))) (length (now (numbers .entry)))) .number ⌝ }
-    ensures amount { λ v. ⌜ v .amount ≡ answer (state r (now (free .entry)) (now (ledger .entry))) (callOf change (now (users .entry)) (now (asked .entry)) (length (now (shares .entry))) (length (now (numbers .entry)))) .amount ⌝ }
-    ensures state { λ v. ⌜ state (v .register) (now (free .exit)) (now (ledger .exit)) ≡ after (state r (now (free .entry)) (now (ledger .entry))) (callOf change (now (users .entry)) (now (asked .entry)) (length (now (shares .entry))) (length (now (numbers .entry)))) ⌝ }
-    ensures shares { λ v. ⌜ now (shares .exit) ≡ sharesLeft (callOf change (now (users .entry)) (now (asked .entry)) (length (now (shares .entry))) (length (now (numbers .entry)))) (answer (state r (now (free .entry)) (now (ledger .entry))) (callOf change (now (users .entry)) (now (asked .entry)) (length (now (shares .entry))) (length (now (numbers .entry))))) (now (shares .entry)) ⌝ }
-    ensures numbers { λ v. ⌜ now (numbers .exit) ≡ numbersLeft (callOf change (now (users .entry)) (now (asked .entry)) (length (now (shares .entry))) (length (now (numbers .entry)))) (answer (state r (now (free .entry)) (now (ledger .entry))) (callOf change (now (users .entry)) (now (asked .entry)) (length (now (shares .entry))) (length (now (numbers .entry))))) (now (numbers .entry)) ⌝ }
+    ensures number { λ v. ⌜ v .number ≡ answer (state r (now (free .entry)) (now (ledger .entry)))
+        (callOf change (now (users .entry)) (now (asked .entry)) (length (now (shares .entry))) (length (now (numbers .entry)))) .number ⌝ }
+    ensures amount { λ v. ⌜ v .amount ≡ answer (state r (now (free .entry)) (now (ledger .entry)))
+        (callOf change (now (users .entry)) (now (asked .entry)) (length (now (shares .entry))) (length (now (numbers .entry)))) .amount ⌝ }
+    ensures state { λ v. ⌜ state (v .register) (now (free .exit)) (now (ledger .exit)) ≡ after
+        (state r (now (free .entry)) (now (ledger .entry))) (callOf change (now (users .entry)) (now (asked .entry))
+        (length (now (shares .entry))) (length (now (numbers .entry)))) ⌝ }
+    ensures shares { λ v. ⌜ now (shares .exit) ≡ sharesLeft (callOf change (now (users .entry)) (now (asked .entry))
+        (length (now (shares .entry))) (length (now (numbers .entry))))
+        (answer (state r (now (free .entry)) (now (ledger .entry))) (callOf change (now (users .entry)) (now (asked .entry))
+        (length (now (shares .entry))) (length (now (numbers .entry))))) (now (shares .entry)) ⌝ }
+    ensures numbers { λ v. ⌜ now (numbers .exit) ≡ numbersLeft (callOf change (now (users .entry)) (now (asked .entry))
+        (length (now (shares .entry))) (length (now (numbers .entry))))
+        (answer (state r (now (free .entry)) (now (ledger .entry))) (callOf change (now (users .entry)) (now (asked .entry))
+        (length (now (shares .entry))) (length (now (numbers .entry))))) (now (numbers .entry)) ⌝ }
 {
     match change {
         Change::OpenPoint(o) => applied::applied_filed(opening::open_point(

@@ -19,9 +19,12 @@ pub extern "C" fn ylgrandi_cession(
     arrival: u16,
     amount: u64,
 ) -> Applied
-    ensures number { λ a. ⌜ a .number ≡ cessionNumber (state r (now (free .entry)) (now (ledger .entry))) (cessionOf giver receiver point arrival amount) ⌝ }
-    ensures amount { λ a. ⌜ a .amount ≡ cessionAmount (state r (now (free .entry)) (now (ledger .entry))) (cessionOf giver receiver point arrival amount) ⌝ }
-    ensures state { λ a. ⌜ state (a .register) (now (free .exit)) (now (ledger .exit)) ≡ cessionAfter (state r (now (free .entry)) (now (ledger .entry))) (cessionOf giver receiver point arrival amount) ⌝ }
+    ensures number { λ a. ⌜ a .number ≡ cessionNumber (state r (now (free .entry)) (now (ledger .entry)))
+        (cessionOf giver receiver point arrival amount) ⌝ }
+    ensures amount { λ a. ⌜ a .amount ≡ cessionAmount (state r (now (free .entry)) (now (ledger .entry)))
+        (cessionOf giver receiver point arrival amount) ⌝ }
+    ensures state { λ a. ⌜ state (a .register) (now (free .exit)) (now (ledger .exit)) ≡ cessionAfter
+        (state r (now (free .entry)) (now (ledger .entry))) (cessionOf giver receiver point arrival amount) ⌝ }
 {
     let c = Cession {
         giver,

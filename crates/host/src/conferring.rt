@@ -19,11 +19,16 @@ pub extern "C" fn ylgrandi_batch(
     shares: &mut [u32],
     numbers: &mut [u8],
 ) -> Applied
-    ensures number { λ a. ⌜ a .number ≡ batchNumber (state r (now (free .entry)) (now (ledger .entry))) (batch point (now (users .entry)) (now (asked .entry))) (length (now (shares .entry))) (length (now (numbers .entry))) ⌝ }
+    ensures number { λ a. ⌜ a .number ≡ batchNumber (state r (now (free .entry)) (now (ledger .entry)))
+        (batch point (now (users .entry)) (now (asked .entry))) (length (now (shares .entry))) (length (now (numbers .entry))) ⌝ }
     ensures amount { λ a. ⌜ a .amount ≡ 0 ⌝ }
-    ensures state { λ a. ⌜ state (a .register) (now (free .exit)) (now (ledger .exit)) ≡ batchAfter (state r (now (free .entry)) (now (ledger .entry))) (batch point (now (users .entry)) (now (asked .entry))) (length (now (shares .entry))) (length (now (numbers .entry))) ⌝ }
-    ensures shares { λ a. ⌜ now (shares .exit) ≡ sharesAfter (state r (now (free .entry)) (now (ledger .entry))) (batch point (now (users .entry)) (now (asked .entry))) (now (shares .entry)) (now (numbers .entry)) ⌝ }
-    ensures numbers { λ a. ⌜ now (numbers .exit) ≡ numbersAfter (state r (now (free .entry)) (now (ledger .entry))) (batch point (now (users .entry)) (now (asked .entry))) (now (shares .entry)) (now (numbers .entry)) ⌝ }
+    ensures state { λ a. ⌜ state (a .register) (now (free .exit)) (now (ledger .exit)) ≡ batchAfter
+        (state r (now (free .entry)) (now (ledger .entry))) (batch point (now (users .entry)) (now (asked .entry)))
+        (length (now (shares .entry))) (length (now (numbers .entry))) ⌝ }
+    ensures shares { λ a. ⌜ now (shares .exit) ≡ sharesAfter (state r (now (free .entry)) (now (ledger .entry)))
+        (batch point (now (users .entry)) (now (asked .entry))) (now (shares .entry)) (now (numbers .entry)) ⌝ }
+    ensures numbers { λ a. ⌜ now (numbers .exit) ≡ numbersAfter (state r (now (free .entry)) (now (ledger .entry)))
+        (batch point (now (users .entry)) (now (asked .entry))) (now (shares .entry)) (now (numbers .entry)) ⌝ }
 {
     applied::applied_filed(batches::confer_batch(
         r,

@@ -27,7 +27,8 @@ fn moved_date(date: Date) -> Moved
 // Moves a date on by one gas-day.
 #[no_mangle]
 pub extern "C" fn ylgrandi_next_day(date: &mut Date) -> u8
-    ensures { λ n. ⌜ (n ≡ moveNumber (nextDateAnswer (now (date .entry)))) × (now (date .exit) ≡ movedDate (now (date .entry)) (nextDateAnswer (now (date .entry)))) ⌝ }
+    ensures { λ n. ⌜ (n ≡ moveNumber (nextDateAnswer (now (date .entry)))) ×
+        (now (date .exit) ≡ movedDate (now (date .entry)) (nextDateAnswer (now (date .entry)))) ⌝ }
 {
     let moved = moved_date(*date);
     *date = moved.date;

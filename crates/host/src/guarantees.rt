@@ -16,7 +16,8 @@ pub extern "C" fn ylgrandi_place_guarantee(
 ) -> Applied
     ensures number { λ a. ⌜ a .number ≡ placeNumber (state r (now (free .entry)) (now (ledger .entry))) user guarantee ⌝ }
     ensures amount { λ a. ⌜ a .amount ≡ 0 ⌝ }
-    ensures state { λ a. ⌜ state (a .register) (now (free .entry)) (now (ledger .entry)) ≡ placeAfter (state r (now (free .entry)) (now (ledger .entry))) user guarantee ⌝ }
+    ensures state { λ a. ⌜ state (a .register) (now (free .entry)) (now (ledger .entry)) ≡ placeAfter
+        (state r (now (free .entry)) (now (ledger .entry))) user guarantee ⌝ }
 {
     applied::applied_filed(placing::place_guarantee(r, free, ledger, user, guarantee))
 }

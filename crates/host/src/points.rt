@@ -18,7 +18,8 @@ pub extern "C" fn ylgrandi_open_point(
 ) -> Applied
     ensures number { λ a. ⌜ a .number ≡ openNumber (state r (now (free .entry)) (now (ledger .entry))) point kind total rate ⌝ }
     ensures amount { λ a. ⌜ a .amount ≡ 0 ⌝ }
-    ensures state { λ a. ⌜ state (a .register) (now (free .exit)) (now (ledger .entry)) ≡ openAfter (state r (now (free .entry)) (now (ledger .entry))) point kind total rate ⌝ }
+    ensures state { λ a. ⌜ state (a .register) (now (free .exit)) (now (ledger .entry)) ≡ openAfter
+        (state r (now (free .entry)) (now (ledger .entry))) point kind total rate ⌝ }
 {
     applied::applied_filed(opening::open_point(r, free, ledger, point, kind, total, rate))
 }

@@ -35,9 +35,12 @@ pub extern "C" fn ylgrandi_request(
     arrival: u16,
     amount: u64,
 ) -> Applied
-    ensures number { λ a. ⌜ a .number ≡ requestNumber (state r (now (free .entry)) (now (ledger .entry))) (requestOf user point (productOf kind month day) arrival amount) ⌝ }
-    ensures amount { λ a. ⌜ a .amount ≡ requestAmount (state r (now (free .entry)) (now (ledger .entry))) (requestOf user point (productOf kind month day) arrival amount) ⌝ }
-    ensures state { λ a. ⌜ state (a .register) (now (free .exit)) (now (ledger .exit)) ≡ requestAfter (state r (now (free .entry)) (now (ledger .entry))) (requestOf user point (productOf kind month day) arrival amount) ⌝ }
+    ensures number { λ a. ⌜ a .number ≡ requestNumber (state r (now (free .entry)) (now (ledger .entry)))
+        (requestOf user point (productOf kind month day) arrival amount) ⌝ }
+    ensures amount { λ a. ⌜ a .amount ≡ requestAmount (state r (now (free .entry)) (now (ledger .entry)))
+        (requestOf user point (productOf kind month day) arrival amount) ⌝ }
+    ensures state { λ a. ⌜ state (a .register) (now (free .exit)) (now (ledger .exit)) ≡ requestAfter
+        (state r (now (free .entry)) (now (ledger .entry))) (requestOf user point (productOf kind month day) arrival amount) ⌝ }
 {
     let product = product_of(kind, month, day);
     let q = Request {

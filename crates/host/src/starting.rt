@@ -9,7 +9,8 @@ use applied::Applied;
 pub extern "C" fn ylgrandi_fresh(year: u16, free: &mut [u32], ledger: &mut [u32]) -> Applied
     ensures number { λ a. ⌜ a .number ≡ freshNumber year (now (free .entry)) (now (ledger .entry)) ⌝ }
     ensures amount { λ a. ⌜ a .amount ≡ 0 ⌝ }
-    ensures state { λ a. ⌜ state (a .register) (now (free .exit)) (now (ledger .exit)) ≡ freshAfter year (now (free .entry)) (now (ledger .entry)) ⌝ }
+    ensures state { λ a. ⌜ state (a .register) (now (free .exit)) (now (ledger .exit)) ≡ freshAfter year (now (free .entry))
+        (now (ledger .entry)) ⌝ }
 {
     applied::applied_filed(register::fresh_register(year, free, ledger))
 }

@@ -15,7 +15,8 @@ pub extern "C" fn ylgrandi_turn_year(
 ) -> Applied
     ensures number { λ a. ⌜ a .number ≡ turnNumber (state r (now (free .entry)) (now (ledger .entry))) year ⌝ }
     ensures amount { λ a. ⌜ a .amount ≡ 0 ⌝ }
-    ensures state { λ a. ⌜ state (a .register) (now (free .exit)) (now (ledger .exit)) ≡ turnAfter (state r (now (free .entry)) (now (ledger .entry))) year ⌝ }
+    ensures state { λ a. ⌜ state (a .register) (now (free .exit)) (now (ledger .exit)) ≡ turnAfter
+        (state r (now (free .entry)) (now (ledger .entry))) year ⌝ }
 {
     applied::applied_filed(turning::turn_year(r, free, ledger, year))
 }

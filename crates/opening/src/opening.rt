@@ -72,8 +72,10 @@ pub fn open_point(
     total: u64,
     rate: u32,
 ) -> Filed
-    ensures number { λ a. ⌜ numberOfVerdict (a .answer) ≡ openNumber (state r (now (free .entry)) (now (ledger .entry))) point kind total rate ⌝ }
-    ensures state { λ a. ⌜ state (a .register) (now (free .exit)) (now (ledger .entry)) ≡ openAfter (state r (now (free .entry)) (now (ledger .entry))) point kind total rate ⌝ }
+    ensures number { λ a. ⌜ numberOfVerdict (a .answer) ≡ openNumber (state r (now (free .entry)) (now (ledger .entry))) point kind total
+        rate ⌝ }
+    ensures state { λ a. ⌜ state (a .register) (now (free .exit)) (now (ledger .entry)) ≡ openAfter
+        (state r (now (free .entry)) (now (ledger .entry))) point kind total rate ⌝ }
 {
     let answer = open_answer(r, &free[..], ledger, point, kind, total, rate);
     match answer {

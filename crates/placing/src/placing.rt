@@ -43,7 +43,8 @@ fn with_user_on_file(r: Register, user: u8, guarantee: u64) -> Register
 // Puts a user on file, or replaces his guarantee.
 pub fn place_guarantee(r: Register, free: &[u32], ledger: &[u32], user: u8, guarantee: u64) -> Filed
     ensures number { λ a. ⌜ numberOfVerdict (a .answer) ≡ placeNumber (state r (now (free .entry)) (now (ledger .entry))) user guarantee ⌝ }
-    ensures state { λ a. ⌜ state (a .register) (now (free .entry)) (now (ledger .entry)) ≡ placeAfter (state r (now (free .entry)) (now (ledger .entry))) user guarantee ⌝ }
+    ensures state { λ a. ⌜ state (a .register) (now (free .entry)) (now (ledger .entry)) ≡ placeAfter
+        (state r (now (free .entry)) (now (ledger .entry))) user guarantee ⌝ }
 {
     let answer = place_answer(r, free, ledger, user, guarantee);
     match answer {

@@ -31,7 +31,8 @@ fn fresh_answer(year: u16, free: &[u32], ledger: &[u32]) -> Verdict
 // no call takes, and leaves both lists.
 pub fn fresh_register(year: u16, free: &mut [u32], ledger: &mut [u32]) -> Filed
     ensures number { λ a. ⌜ numberOfVerdict (a .answer) ≡ freshNumber year (now (free .entry)) (now (ledger .entry)) ⌝ }
-    ensures state { λ a. ⌜ state (a .register) (now (free .exit)) (now (ledger .exit)) ≡ freshAfter year (now (free .entry)) (now (ledger .entry)) ⌝ }
+    ensures state { λ a. ⌜ state (a .register) (now (free .exit)) (now (ledger .exit)) ≡ freshAfter year (now (free .entry))
+        (now (ledger .entry)) ⌝ }
 {
     let answer = fresh_answer(year, &free[..], &ledger[..]);
     match answer {

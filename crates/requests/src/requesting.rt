@@ -12,7 +12,8 @@ use request_decision::Decision;
 pub fn request_capacity(r: Register, free: &mut [u32], ledger: &mut [u32], q: Request) -> Conferred
     ensures number { λ a. ⌜ numberOfConferral (a .answer) ≡ requestNumber (state r (now (free .entry)) (now (ledger .entry))) q ⌝ }
     ensures amount { λ a. ⌜ amountOfConferral (a .answer) ≡ requestAmount (state r (now (free .entry)) (now (ledger .entry))) q ⌝ }
-    ensures state { λ a. ⌜ state (a .register) (now (free .exit)) (now (ledger .exit)) ≡ requestAfter (state r (now (free .entry)) (now (ledger .entry))) q ⌝ }
+    ensures state { λ a. ⌜ state (a .register) (now (free .exit)) (now (ledger .exit)) ≡ requestAfter
+        (state r (now (free .entry)) (now (ledger .entry))) q ⌝ }
 {
     let decision = request_decision::decide(r, &free[..], &ledger[..], q);
     match decision {

@@ -73,7 +73,8 @@ fn record_at(input: &[u8], k: usize) -> Decoded
 fn make_call(r: Register, free: &mut [u32], ledger: &mut [u32], d: Decoded) -> Applied
     ensures number { λ v. ⌜ v .number ≡ answerTo (state r (now (free .entry)) (now (ledger .entry))) d .number ⌝ }
     ensures amount { λ v. ⌜ v .amount ≡ answerTo (state r (now (free .entry)) (now (ledger .entry))) d .amount ⌝ }
-    ensures state { λ v. ⌜ state (v .register) (now (free .exit)) (now (ledger .exit)) ≡ leftBy (state r (now (free .entry)) (now (ledger .entry))) d ⌝ }
+    ensures state { λ v. ⌜ state (v .register) (now (free .exit)) (now (ledger .exit)) ≡ leftBy
+        (state r (now (free .entry)) (now (ledger .entry))) d ⌝ }
 {
     match d {
         Decoded::IsCall(change) => {
@@ -111,9 +112,12 @@ fn take_record(
     place: usize,
 ) -> Progress
     requires { ⌜ (k < 2000) × (24 * k ≤ length (now input)) × (place + 33 ≤ length (now out)) ⌝ }
-    ensures state { λ v. ⌜ state (v .register) (now (free .exit)) (now (ledger .exit)) ≡ leftAt (now (input .entry)) k (state r (now (free .entry)) (now (ledger .entry))) ⌝ }
-    ensures place { λ v. ⌜ v .place ≡ place + length (lineOf (k + 1) (answerAt (now (input .entry)) k (state r (now (free .entry)) (now (ledger .entry))))) ⌝ }
-    ensures bytes { λ v. ⌜ now (out .exit) ≡ sets (now (out .entry)) place (lineOf (k + 1) (answerAt (now (input .entry)) k (state r (now (free .entry)) (now (ledger .entry))))) ⌝ }
+    ensures state { λ v. ⌜ state (v .register) (now (free .exit)) (now (ledger .exit)) ≡ leftAt (now (input .entry)) k
+        (state r (now (free .entry)) (now (ledger .entry))) ⌝ }
+    ensures place { λ v. ⌜ v .place ≡ place + length (lineOf (k + 1) (answerAt (now (input .entry)) k
+        (state r (now (free .entry)) (now (ledger .entry))))) ⌝ }
+    ensures bytes { λ v. ⌜ now (out .exit) ≡ sets (now (out .entry)) place
+        (lineOf (k + 1) (answerAt (now (input .entry)) k (state r (now (free .entry)) (now (ledger .entry))))) ⌝ }
     ensures bound { λ v. ⌜ v .place ≤ place + 33 ⌝ }
 {
     let d = record_at(input, k);
@@ -138,9 +142,12 @@ fn take_records(
     out: &mut [u8],
 ) -> Progress
     requires { ⌜ (count ≡ countIn (length (now input))) × (count ≤ 2000) × (33 * count ≤ length (now out)) ⌝ }
-    ensures state { λ v. ⌜ state (v .register) (now (free .exit)) (now (ledger .exit)) ≡ leftByAll (state r (now (free .entry)) (now (ledger .entry))) (decodedIn (now (input .entry))) ⌝ }
-    ensures place { λ v. ⌜ v .place ≡ length (linesFrom 1 (answersTo (state r (now (free .entry)) (now (ledger .entry))) (decodedIn (now (input .entry))))) ⌝ }
-    ensures bytes { λ v. ⌜ now (out .exit) ≡ linesFrom 1 (answersTo (state r (now (free .entry)) (now (ledger .entry))) (decodedIn (now (input .entry)))) ++ drop (v .place) (now (out .entry)) ⌝ }
+    ensures state { λ v. ⌜ state (v .register) (now (free .exit)) (now (ledger .exit)) ≡ leftByAll
+        (state r (now (free .entry)) (now (ledger .entry))) (decodedIn (now (input .entry))) ⌝ }
+    ensures place { λ v. ⌜ v .place ≡ length (linesFrom 1 (answersTo (state r (now (free .entry)) (now (ledger .entry)))
+        (decodedIn (now (input .entry))))) ⌝ }
+    ensures bytes { λ v. ⌜ now (out .exit) ≡ linesFrom 1 (answersTo (state r (now (free .entry)) (now (ledger .entry)))
+        (decodedIn (now (input .entry)))) ++ drop (v .place) (now (out .entry)) ⌝ }
     ensures bound { λ v. ⌜ v .place ≤ length (now (out .entry)) ⌝ }
 {
     let mut register = r;
@@ -161,10 +168,12 @@ fn take_records(
 // was written.
 pub fn run(input: &[u8], free: &mut [u32], ledger: &mut [u32], out: &mut [u8]) -> Ran
     ensures number { λ v. ⌜ v .number ≡ runNumber (now (input .entry)) (now (free .entry)) (now (ledger .entry)) (now (out .entry)) ⌝ }
-    ensures state { λ v. ⌜ state (v .register) (now (free .exit)) (now (ledger .exit)) ≡ runLeaves (now (input .entry)) (now (free .entry)) (now (ledger .entry)) (now (out .entry)) ⌝ }
+    ensures state { λ v. ⌜ state (v .register) (now (free .exit)) (now (ledger .exit)) ≡ runLeaves (now (input .entry)) (now (free .entry))
+        (now (ledger .entry)) (now (out .entry)) ⌝ }
     ensures bytes { λ v. ⌜ now (out .exit) ≡ runBytes (now (input .entry)) (now (free .entry)) (now (ledger .entry)) (now (out .entry)) ⌝ }
     ensures written { λ v. ⌜ v .written ≡ runLength (now (input .entry)) (now (free .entry)) (now (ledger .entry)) (now (out .entry)) ⌝ }
-    ensures demand { λ v. ⌜ (v .number ≡ 0 → Accounted (now (input .entry)) (state (v .register) (now (free .exit)) (now (ledger .exit)))) ⌝ }
+    ensures demand { λ v. ⌜ (v .number ≡ 0 → Accounted (now (input .entry))
+        (state (v .register) (now (free .exit)) (now (ledger .exit)))) ⌝ }
     ensures within { λ v. ⌜ (v .written ≤ length (now (out .exit))) × (v .written ≡ length (take (v .written) (now (out .exit)))) ⌝ }
 {
     let count = record_count(input.len());

@@ -57,8 +57,10 @@ fn place_of(user: u8) -> usize
 // The number of each line by these questions. Users that lines have named are marked. Of a line whose user is not within limits any
 // account will do.
 pub(crate) fn ask_lines(r: Register, point: u8, users: &[u8], asked: &[u64], numbers: &mut [u8])
-    requires { ⌜ (isThermalYear (r .year) ≡ true) × ((point < pointCount) × ((length (now asked) ≡ length (now users)) × (length (now numbers) ≡ length (now users)))) ⌝ }
-    ensures { λ _. ⌜ now (numbers .exit) ≡ replaced (now (numbers .entry)) 0 (length (now (users .entry))) (lineNumber r (batch point (now (users .entry)) (now (asked .entry)))) ⌝ }
+    requires { ⌜ (isThermalYear (r .year) ≡ true) × ((point < pointCount) ×
+        ((length (now asked) ≡ length (now users)) × (length (now numbers) ≡ length (now users)))) ⌝ }
+    ensures { λ _. ⌜ now (numbers .exit) ≡ replaced (now (numbers .entry)) 0 (length (now (users .entry)))
+        (lineNumber r (batch point (now (users .entry)) (now (asked .entry)))) ⌝ }
 {
     let days = register::days_of_year(r.year) as u16;
     let p = r.points[point as usize];

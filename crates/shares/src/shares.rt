@@ -47,7 +47,8 @@ pub fn share_lines(
 )
     ensures shares { λ _. ⌜ now (shares .exit) ≡ sharesListed r (now (free .entry)) (batch point (now (users .entry)) (now (asked .entry)))
         (now (shares .entry)) (now (numbers .entry)) ⌝ }
-    ensures numbers { λ _. ⌜ now (numbers .exit) ≡ numbersListed r (now (free .entry)) (batch point (now (users .entry)) (now (asked .entry)))
+    ensures numbers { λ _. ⌜ now (numbers .exit) ≡ numbersListed r (now (free .entry))
+        (batch point (now (users .entry)) (now (asked .entry)))
         (now (shares .entry)) (now (numbers .entry)) ⌝ }
 {
     let year = calendar::is_thermal_year(r.year);

@@ -67,9 +67,12 @@ fn number_if(number: u8, share: u32) -> u8
 
 // The shares and the numbers of all lines, by the numbers that the questions gave them.
 pub(crate) fn share_out(asked: &[u64], shares: &mut [u32], numbers: &mut [u8], free: u32, sum: u64)
-    requires { ⌜ (length (now shares) ≡ length (now asked)) × ((length (now numbers) ≡ length (now asked)) × Passing (now numbers) (now asked)) ⌝ }
-    ensures shares { λ _. ⌜ now (shares .exit) ≡ replaced (now (shares .entry)) 0 (length (now (asked .entry))) (shareIn free sum (now (numbers .entry)) (now (asked .entry))) ⌝ }
-    ensures numbers { λ _. ⌜ now (numbers .exit) ≡ replaced (now (numbers .entry)) 0 (length (now (asked .entry))) (numberIn free sum (now (numbers .entry)) (now (asked .entry))) ⌝ }
+    requires { ⌜ (length (now shares) ≡ length (now asked)) × ((length (now numbers) ≡ length (now asked)) × Passing (now numbers)
+        (now asked)) ⌝ }
+    ensures shares { λ _. ⌜ now (shares .exit) ≡ replaced (now (shares .entry)) 0 (length (now (asked .entry)))
+        (shareIn free sum (now (numbers .entry)) (now (asked .entry))) ⌝ }
+    ensures numbers { λ _. ⌜ now (numbers .exit) ≡ replaced (now (numbers .entry)) 0 (length (now (asked .entry)))
+        (numberIn free sum (now (numbers .entry)) (now (asked .entry))) ⌝ }
 {
     let mut i: usize = 0;
     while i < asked.len() {

@@ -56,7 +56,8 @@ fn turned_register(r: Register, year: u16) -> Register
 // Turns the register to a later year: totals are free again and the ledger is empty.
 pub fn turn_year(r: Register, free: &mut [u32], ledger: &mut [u32], year: u16) -> Filed
     ensures number { λ a. ⌜ numberOfVerdict (a .answer) ≡ turnNumber (state r (now (free .entry)) (now (ledger .entry))) year ⌝ }
-    ensures state { λ a. ⌜ state (a .register) (now (free .exit)) (now (ledger .exit)) ≡ turnAfter (state r (now (free .entry)) (now (ledger .entry))) year ⌝ }
+    ensures state { λ a. ⌜ state (a .register) (now (free .exit)) (now (ledger .exit)) ≡ turnAfter
+        (state r (now (free .entry)) (now (ledger .entry))) year ⌝ }
 {
     let answer = turn_answer(r, &free[..], &ledger[..], year);
     match answer {
