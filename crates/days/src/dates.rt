@@ -8,7 +8,7 @@ pub const LAST_DAY: u16 = 36524;
 
 // A date: the year, the month of the calendar and the day of the month. It need not exist.
 #[repr(C)]
-#[derive(Drop)]
+#[derive(Clone, Copy)]
 pub struct Date {
     pub year: u16,
     pub month: u8,
@@ -16,14 +16,14 @@ pub struct Date {
 }
 
 // A gas-day by its number.
-#[derive(Drop)]
+#[derive(Clone, Copy)]
 pub enum GasDay {
     Day(u16),
     OutsideCalendar,
 }
 
 // A date that exists.
-#[derive(Drop)]
+#[derive(Clone, Copy)]
 pub enum CalendarDate {
     On(Date),
     OutsideCalendar,

@@ -3,6 +3,8 @@
 // No function that another crate can name has a `requires`. `date_of`, `day_of` and `next_date` answer input outside the calendar
 // with the case `OutsideCalendar`; the others, on which the crates of working days and of thermal years rest, say what their
 // definitions say of any number. The meaning of each answer is in specs/, and proofs/ has the laws that callers cite.
+#![tactic(auto)]
+
 mod dates;
 
 pub use dates::{
