@@ -7,7 +7,7 @@ use crate::limits::{MOST_GUARANTEE, MOST_WORD};
 
 // A user is on file where `on_file` is 1. Guarantee and commitment are in millionths of a euro.
 #[repr(C)]
-#[derive(Drop)]
+#[derive(Clone, Copy)]
 pub struct Account {
     pub on_file: u8,
     pub guarantee: u64,

@@ -5,7 +5,7 @@ ghost use Rattle.parts.specs.Answers.{number_of_refusal, number_of_verdict, numb
 use crate::registers::Register;
 
 // The questions of document 01, each named by what a "no" means.
-#[derive(Drop)]
+#[derive(Clone, Copy)]
 pub enum Refusal {
     NotInOrder,
     OutOfLimits,
@@ -25,7 +25,7 @@ pub enum Refusal {
 }
 
 // The answer of a call without an amount.
-#[derive(Drop)]
+#[derive(Clone, Copy)]
 pub enum Verdict {
     Accepted,
     Refused(Refusal),
@@ -39,7 +39,7 @@ pub struct Filed {
 }
 
 // The answer of a report.
-#[derive(Drop)]
+#[derive(Clone, Copy)]
 pub enum Report {
     Free(u32),
     Refused(Refusal),

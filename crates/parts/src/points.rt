@@ -7,7 +7,7 @@ use crate::limits::{MOST_AMOUNT, MOST_RATE};
 // Kind 0 is closed, 1 direct, 2 thermoelectric. The total is in Sm3 a day; the rate is for each Sm3/day and gas-day, in millionths
 // of a euro.
 #[repr(C)]
-#[derive(Drop)]
+#[derive(Clone, Copy)]
 pub struct Point {
     pub kind: u8,
     pub total: u32,
