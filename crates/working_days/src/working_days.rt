@@ -9,7 +9,7 @@ use days::{
 };
 
 // Whether a gas-day is a working day.
-#[derive(Drop)]
+#[derive(Clone, Copy)]
 pub enum DayType {
     Working,
     NonWorking,
@@ -17,7 +17,7 @@ pub enum DayType {
 }
 
 // A number of days.
-#[derive(Drop)]
+#[derive(Clone, Copy)]
 pub enum DayCount {
     Count(u8),
     OutsideCalendar,
@@ -75,11 +75,11 @@ fn is_fixed_holiday(month: u8, day: u8) -> bool
 
 // Whether a date is a working day. The caller gives the date's number and the year's Easter Monday, so that a walk through a month finds
 // the month's first day and Easter once.
-fn is_working(date: Date, number: u32, easter_monday: u32) -> bool
-    requires { (number ≡ day_of date) × (number < 2 ^ 28) × (easter_monday ≡ easter_monday date.year) }
+fn is_working(date: Date, number: u32, monday: u32) -> bool
+    requires { (number ≡ day_of date) × (number < 2 ^ 28) × (monday ≡ easter_monday date.year) }
     ensures { result ≡ working date.year date.month date.day }
 {
-    let holiday = is_fixed_holiday(date.month, date.day) | (number == easter_monday);
+    let holiday = is_fixed_holiday(date.month, date.day) | (number == monday);
     ((number + 5) % 7 < 5) & !holiday
 }
 
