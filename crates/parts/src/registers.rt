@@ -7,7 +7,7 @@ use crate::points::Point;
 
 // `lines` is how many lines of the ledger are used.
 #[repr(C)]
-#[derive(Drop)]
+#[derive(Clone, Copy)]
 pub struct Register {
     pub year: u16,
     pub points: [Point; 32],
