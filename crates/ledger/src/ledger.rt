@@ -6,7 +6,7 @@ use parts::LINE;
 
 // A line as a value. Kind 1 is annual, 2 month, 3 day; `first` is its first gas-day.
 #[repr(C)]
-#[derive(Drop)]
+#[derive(Clone, Copy)]
 pub struct Line {
     pub user: u32,
     pub point: u32,
