@@ -7,7 +7,7 @@ use days::{GasDay, LAST_DAY, date_at, month_start};
 use working_days::nth_working_day;
 
 // Whether an arrival is in time.
-#[derive(Drop)]
+#[derive(Clone, Copy)]
 pub enum Timeliness {
     InTime,
     Late,

@@ -3,6 +3,8 @@
 //
 // No function that another crate can name has a `requires`. Input outside the calendar is answered with the case
 // `OutsideCalendar`. The meaning of each answer is in specs/, and proofs/ has the laws that callers cite.
+#![tactic(auto)]
+
 mod deadlines;
 mod thermal_years;
 

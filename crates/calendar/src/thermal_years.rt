@@ -6,7 +6,7 @@ ghost use Rattle.calendar.specs.Answers.{span_of_month, year_answer, month_answe
 use days::{day_number, is_month, month_length, month_start};
 
 // The first and the last day of a span.
-#[derive(Drop)]
+#[derive(Clone, Copy)]
 pub enum Span {
     Days(u16, u16),
     OutsideCalendar,
