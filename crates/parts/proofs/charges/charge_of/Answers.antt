@@ -11,8 +11,7 @@ overflow_mul-volume c =
     omega (arith, mul-le-mul a d)
 
 pub overflow_mul-result : goal.overflow_mul-result
-overflow_mul-result c =
-    omega (arith, halves_fit (c.args.amount * c.args.days) c.args.rate (omega arith) (omega (arith, c.ranges.rate.fits)))
+overflow_mul-result c = grind (arith, mul-le-mul)
 
 pub returns-then-volume-le-MOST_HALF : goal.returns-then-volume-le-MOST_HALF
 returns-then-volume-le-MOST_HALF c =
