@@ -1,9 +1,7 @@
-use mathlib.Core.Path.{refl}
 use native.Mathlib.Omega.{arith}
 use borrow.Author.Tests.{le-leb, lt-leb}
 use Rattle.days.specs.Days.{last_day}
 use Rattle.calendar.specs.Answers.{day_in}
-use borrow.Author.Rules.{rules}
 use Rattle.calendar.proofs.deadlines.in_calendar.Goals as goal
 
 pub returns-then-number : goal.returns-then-number

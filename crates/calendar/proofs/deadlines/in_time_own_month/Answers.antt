@@ -1,7 +1,6 @@
 use mathlib.Core.Path.{◌∙◌}
 use native.Mathlib.Omega.{arith}
 use Rattle.calendar.proofs.AnswerLaws.{own_answer_lem, own_outside}
-use borrow.Author.Rules.{rules}
 use Rattle.calendar.proofs.deadlines.in_time_own_month.Goals as goal
 
 pub returns-then-arrival-gt-LAST_DAY : goal.returns-then-arrival-gt-LAST_DAY

@@ -2,7 +2,6 @@ use mathlib.Core.Path.{◌∙◌, ap}
 use native.Mathlib.Omega.{arith}
 use Rattle.calendar.specs.Answers.{timely}
 use Rattle.calendar.proofs.AnswerLaws.{preceding_answer_lem, preceding_outside}
-use borrow.Author.Rules.{rules}
 use Rattle.calendar.proofs.deadlines.in_time_preceding_month.Goals as goal
 
 pub returns-then-arrival-gt-LAST_DAY : goal.returns-then-arrival-gt-LAST_DAY

@@ -9,7 +9,6 @@ use Rattle.calendar.specs.Deadlines.{next_first}
 use Rattle.calendar.specs.Answers.{day_in, next_first_answer}
 use Rattle.days.proofs.DateLaws.{date_from_lem}
 use Rattle.calendar.proofs.DeadlineLaws.{next_same_year, next_january}
-use borrow.Author.Rules.{rules}
 use Rattle.calendar.proofs.deadlines.next_first.Goals as goal
 
 pub returns-then-d-lt12 : goal.returns-then-d-lt12

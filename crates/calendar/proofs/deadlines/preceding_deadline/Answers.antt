@@ -1,16 +1,14 @@
 -- `calendar::deadlines::preceding_deadline` meets its contract.
 -- The month before months 1 to 4 lies in the first calendar year of the thermal year, that before 5 to 12 in its second.
 -- Assumes nothing.
-use mathlib.Core.Path.{◌≡◌, refl, sym, ◌∙◌}
+use mathlib.Core.Path.{◌≡◌, sym, ◌∙◌}
 use mathlib.Core.Bool.{true}
 use native.Mathlib.Omega.{arith}
-use borrow.Author.Tests.{not-true, not-false}
 use Rattle.calendar.specs.ThermalYears.{is_thermal_month}
 use Rattle.calendar.specs.Answers.{preceding_day}
 use Rattle.days.proofs.Ranges.{ThermalMonth, month_of_test}
 use Rattle.calendar.proofs.AnswerLaws.{preceding_day_lem}
 use Rattle.calendar.proofs.DeadlineLaws.{preceding_early, preceding_late}
-use borrow.Author.Rules.{rules}
 use Rattle.calendar.proofs.deadlines.preceding_deadline.Goals as goal
 
 pub returns-then-not-is_thermal_month : goal.returns-then-not-is_thermal_month

@@ -1,5 +1,3 @@
-use mathlib.Core.Path.{refl}
-use borrow.Author.Rules.{rules}
 use Rattle.calendar.proofs.thermal_years.is_thermal_month.Goals as goal
 
 pub returns : goal.returns

@@ -2,14 +2,13 @@
 -- The last day of a month of the calendar lies in the calendar, so both days fit.
 -- Assumes nothing.
 use Prim.Native.Nat.{◌+◌, ◌≤◌}
-use mathlib.Core.Path.{◌≡◌, refl, sym, ◌∙◌}
+use mathlib.Core.Path.{◌≡◌, sym, ◌∙◌}
 use mathlib.Core.Bool.{true}
 use native.Mathlib.Omega.{arith}
 use Rattle.days.specs.Days.{last_day, month_length, month_start, is_month}
 use Rattle.calendar.specs.Answers.{span_of_month}
 use Rattle.days.proofs.Ranges.{month_of_test}
 use Rattle.days.proofs.DateLaws.{month_least, month_in}
-use borrow.Author.Rules.{rules}
 use Rattle.calendar.proofs.thermal_years.month_span.Goals as goal
 
 pub overflow_cast-result : goal.overflow_cast-result

@@ -1,7 +1,7 @@
 -- `calendar::thermal_years::thermal_month` meets its contract.
 -- A month of a thermal year is a month of the calendar: months 1 to 3 in its first calendar year, 4 to 12 in its second.
 -- Assumes nothing.
-use mathlib.Core.Path.{◌≡◌, refl, sym, ◌∙◌}
+use mathlib.Core.Path.{◌≡◌, sym, ◌∙◌}
 use mathlib.Core.Bool.{true}
 use native.Mathlib.Omega.{arith}
 use Rattle.calendar.specs.ThermalYears.{is_thermal_month, thermal_month_first, thermal_month_last, calendar_year, calendar_month}
@@ -9,7 +9,6 @@ use Rattle.calendar.specs.Answers.{span_of_month, month_answer}
 use Prim.Native.Nat.{ℕ}
 use Rattle.days.proofs.Ranges.{month_of_test, is_month_lem}
 use Rattle.calendar.proofs.ThermalYearLaws.{autumn, from_january, calendar_month_lem}
-use borrow.Author.Rules.{rules}
 use Rattle.calendar.proofs.thermal_years.thermal_month.Goals as goal
 
 -- the span of the calendar month is the answer

@@ -1,11 +1,10 @@
-use mathlib.Core.Path.{◌≡◌, refl, sym, ◌∙◌}
+use mathlib.Core.Path.{◌≡◌, sym, ◌∙◌}
 use mathlib.Core.Bool.{true}
 use native.Mathlib.Omega.{arith}
 use Rattle.calendar.specs.ThermalYears.{is_thermal_year}
 use Rattle.calendar.specs.Answers.{year_answer}
 use Rattle.days.proofs.Ranges.{Within, within}
 use Rattle.calendar.proofs.ThermalYearLaws.{thermal_order, thermal_last_lem}
-use borrow.Author.Rules.{rules}
 use Rattle.calendar.proofs.thermal_years.thermal_year.Goals as goal
 
 pub overflow_cast-result : goal.overflow_cast-result
