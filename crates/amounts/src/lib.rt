@@ -3,6 +3,8 @@
 //
 // No function that another crate can name has a `requires`. The meaning of each answer is in specs/, and proofs/ has the laws that
 // callers cite.
+#![tactic(auto)]
+
 mod amounts;
 
 pub use amounts::{capacity_on, days_of_year, entry_in};

@@ -7,7 +7,7 @@ use calendar::Span;
 use parts::Point;
 
 // The rest of the year, a month of it (1 is October) or a gas-day.
-#[derive(Drop)]
+#[derive(Clone, Copy)]
 pub enum Product {
     Annual,
     Month(u8),
@@ -15,7 +15,7 @@ pub enum Product {
 }
 
 // A request of a user at a point, which arrives on a gas-day: an amount on each day of the product.
-#[derive(Drop)]
+#[derive(Clone, Copy)]
 pub struct Request {
     pub user: u8,
     pub point: u8,

@@ -2,6 +2,8 @@
 //
 // No function that another crate can name has a `requires`. The meaning of each answer is in specs/, and proofs/ has the laws that
 // callers cite.
+#![tactic(auto)]
+
 mod deciding;
 
 pub use deciding::{Decision, decide};
