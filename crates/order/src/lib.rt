@@ -2,6 +2,8 @@
 //
 // No function that another crate can name has a `requires`. The meaning of the answer is in specs/, and proofs/ has the laws that
 // callers cite.
+#![tactic(auto)]
+
 mod order;
 
 pub use order::in_order;
