@@ -3,6 +3,8 @@
 //
 // No function that another crate can name has a `requires`. The meaning of each answer is in the specs/ of `amounts`, and
 // its proofs/ has the laws that callers cite.
+#![tactic(auto)]
+
 mod tables;
 
 pub use tables::{clear, free_row, free_table, least_free, take_free};
