@@ -8,37 +8,37 @@
 //   working days, are in time by the 11th working day of their month, are late by it, are in time for the month after it (none where
 //   that is no month of a thermal year), and are followed by the date of the next number; and the number of the first of the next
 //   month, which its last day is asked for (0 in December 2099).
+//
+// A write that fails ends the program with an error, but where nobody reads the output any more it ends without a word.
+#![tactic(auto)]
+
 ghost use Rattle.std.specs.Prelude.{◌≤◌, ◌<◌};
 
 use calendar::{CalendarDate, Date, DayCount, DayType, GasDay, Span, Timeliness};
-use libc::STDOUT_FILENO;
+use std::io;
+use std::io::{BufWriter, ErrorKind, Write};
 
-fn print_number(n: u64) {
-    io::print_decimal(STDOUT_FILENO, n);
+fn print_number<W: Write>(out: &mut W, n: u64) -> io::Result<()> {
+    write!(out, "{n}")
 }
 
 // A number after a space.
-fn print_field(n: u64) {
-    io::write_all(STDOUT_FILENO, b" ");
-    print_number(n);
+fn print_field<W: Write>(out: &mut W, n: u64) -> io::Result<()> {
+    write!(out, " {n}")
 }
 
 // A month or a day of the month, in two digits, after a hyphen.
-fn print_two_digits(n: u8) {
-    io::write_all(STDOUT_FILENO, b"-");
-    if n < 10 {
-        io::write_all(STDOUT_FILENO, b"0");
-    }
-    print_number(n as u64);
+fn print_two_digits<W: Write>(out: &mut W, n: u8) -> io::Result<()> {
+    write!(out, "-{n:02}")
 }
 
 // What is printed in place of an answer outside the calendar, which `stdout` has nowhere.
-fn print_outside() {
-    io::write_all(STDOUT_FILENO, b" outside the calendar");
+fn print_outside<W: Write>(out: &mut W) -> io::Result<()> {
+    write!(out, " outside the calendar")
 }
 
-fn end_line() {
-    io::write_all(STDOUT_FILENO, b"\n");
+fn end_line<W: Write>(out: &mut W) -> io::Result<()> {
+    writeln!(out)
 }
 
 fn date_of(day: GasDay) -> CalendarDate {
@@ -48,69 +48,70 @@ fn date_of(day: GasDay) -> CalendarDate {
     }
 }
 
-fn print_date(d: Date) {
-    io::write_all(STDOUT_FILENO, b" ");
-    print_number(d.year as u64);
-    print_two_digits(d.month);
-    print_two_digits(d.day);
+fn print_date<W: Write>(out: &mut W, d: Date) -> io::Result<()> {
+    write!(out, " ")?;
+    print_number(out, d.year as u64)?;
+    print_two_digits(out, d.month)?;
+    print_two_digits(out, d.day)
 }
 
-fn print_easter(year: u16) {
-    io::write_all(STDOUT_FILENO, b"Easter");
+fn print_easter<W: Write>(out: &mut W, year: u16) -> io::Result<()> {
+    write!(out, "Easter")?;
     match date_of(calendar::easter(year)) {
-        CalendarDate::On(d) => print_date(d),
-        CalendarDate::OutsideCalendar => print_outside(),
+        CalendarDate::On(d) => print_date(out, d)?,
+        CalendarDate::OutsideCalendar => print_outside(out)?,
     }
-    end_line();
+    end_line(out)
 }
 
-fn print_count(year: u16, month: u8) {
+fn print_count<W: Write>(out: &mut W, year: u16, month: u8) -> io::Result<()> {
     match calendar::working_days_of(year, month) {
-        DayCount::Count(n) => print_field(n as u64),
-        DayCount::OutsideCalendar => print_outside(),
+        DayCount::Count(n) => print_field(out, n as u64),
+        DayCount::OutsideCalendar => print_outside(out),
     }
 }
 
-fn print_nth(year: u16, month: u8, n: u8) {
+fn print_nth<W: Write>(out: &mut W, year: u16, month: u8, n: u8) -> io::Result<()> {
     match date_of(calendar::nth_working_day(year, month, n)) {
-        CalendarDate::On(d) => print_field(d.day as u64),
-        CalendarDate::OutsideCalendar => print_outside(),
+        CalendarDate::On(d) => print_field(out, d.day as u64),
+        CalendarDate::OutsideCalendar => print_outside(out),
     }
 }
 
-fn print_month(year: u16, month: u8) {
-    print_number(year as u64);
-    print_two_digits(month);
-    print_count(year, month);
-    print_nth(year, month, 10);
-    print_nth(year, month, 11);
-    print_nth(year, month, 14);
-    print_nth(year, month, 16);
-    end_line();
+fn print_month<W: Write>(out: &mut W, year: u16, month: u8) -> io::Result<()> {
+    print_number(out, year as u64)?;
+    print_two_digits(out, month)?;
+    print_count(out, year, month)?;
+    print_nth(out, year, month, 10)?;
+    print_nth(out, year, month, 11)?;
+    print_nth(out, year, month, 14)?;
+    print_nth(out, year, month, 16)?;
+    end_line(out)
 }
 
-fn print_span(s: Span) {
+fn print_span<W: Write>(out: &mut W, s: Span) -> io::Result<()> {
     match s {
         Span::Days(first, last) => {
-            print_field(first as u64);
-            print_field(last as u64);
+            print_field(out, first as u64)?;
+            print_field(out, last as u64)
         }
-        Span::OutsideCalendar => print_outside(),
+        Span::OutsideCalendar => print_outside(out),
     }
 }
 
-fn print_thermal_months(year: u16) {
+fn print_thermal_months<W: Write>(out: &mut W, year: u16) -> io::Result<()> {
     for month in 1..13 {
-        print_span(calendar::thermal_month(year, month));
+        print_span(out, calendar::thermal_month(year, month))?;
     }
+    Ok(())
 }
 
-fn print_thermal_year(year: u16) {
-    io::write_all(STDOUT_FILENO, b"thermal");
-    print_field(year as u64);
-    print_span(calendar::thermal_year(year));
-    print_thermal_months(year);
-    end_line();
+fn print_thermal_year<W: Write>(out: &mut W, year: u16) -> io::Result<()> {
+    write!(out, "thermal")?;
+    print_field(out, year as u64)?;
+    print_span(out, calendar::thermal_year(year))?;
+    print_thermal_months(out, year)?;
+    end_line(out)
 }
 
 // How many days of a month are found to be what, and the first of the next month.
@@ -238,46 +239,52 @@ fn found(year: u16, month: u8) -> Findings
     f
 }
 
-fn print_findings(year: u16, month: u8)
+fn print_findings<W: Write>(out: &mut W, year: u16, month: u8) -> io::Result<()>
     requires { (1 ≤ year) × (1 ≤ month) × (month ≤ 12) }
 {
     let f = found(year, month);
-    io::write_all(STDOUT_FILENO, b"days ");
-    print_number(year as u64);
-    print_two_digits(month);
-    print_field(f.exist as u64);
-    print_field(f.working as u64);
-    print_field(f.in_time as u64);
-    print_field(f.late as u64);
-    print_field(f.in_time_for_next as u64);
-    print_field(f.followed as u64);
-    print_field(f.next_first as u64);
-    end_line();
+    write!(out, "days ")?;
+    print_number(out, year as u64)?;
+    print_two_digits(out, month)?;
+    print_field(out, f.exist as u64)?;
+    print_field(out, f.working as u64)?;
+    print_field(out, f.in_time as u64)?;
+    print_field(out, f.late as u64)?;
+    print_field(out, f.in_time_for_next as u64)?;
+    print_field(out, f.followed as u64)?;
+    print_field(out, f.next_first as u64)?;
+    end_line(out)
 }
 
 // The lines in their order.
-fn print_line(line: u16)
+fn print_line<W: Write>(out: &mut W, line: u16) -> io::Result<()>
     requires { line < 2599 }
 {
     if line < 100 {
-        print_easter(2000 + line);
-        return;
+        return print_easter(out, 2000 + line);
     }
     if line < 1300 {
         let month = line - 100;
-        print_month(2000 + month / 12, (1 + month % 12) as u8);
-        return;
+        return print_month(out, 2000 + month / 12, (1 + month % 12) as u8);
     }
     if line < 1399 {
-        print_thermal_year(2000 + (line - 1300));
-        return;
+        return print_thermal_year(out, 2000 + (line - 1300));
     }
     let month = line - 1399;
-    print_findings(2000 + month / 12, (1 + month % 12) as u8);
+    print_findings(out, 2000 + month / 12, (1 + month % 12) as u8)
 }
 
-fn main() {
+fn print_lines<W: Write>(out: &mut W) -> io::Result<()> {
     for line in 0..2599 {
-        print_line(line);
+        print_line(out, line)?;
+    }
+    out.flush()
+}
+
+fn main(rt: HostRuntime) -> io::Result<()> {
+    let mut out = BufWriter::new(rt.alloc(), rt.stdout())?;
+    match print_lines(&mut out) {
+        Err(e) if e.kind() == ErrorKind::BrokenPipe => Ok(()),
+        printed => printed,
     }
 }
