@@ -1,7 +1,7 @@
 -- Laws of products: their spans and their deadlines, as the calendar answers them.
 -- Assumes nothing.
 use mathlib.Core.Path.{◌≡◌, refl}
-use mathlib.Core.Bool.{Bool, true, false, and-true, and_false}
+use mathlib.Core.Bool.{Bool, true, false, and-true, and-false}
 use Prim.Native.Nat.{ℕ}
 use native.Mathlib.Omega.{arith}
 use borrow.Author.Tests.{le-leb}
@@ -32,7 +32,7 @@ time_asked y a (Day d) h o = refl
 -- ---- question 8
 pub no_arrival : (y a : ℕ) (k : Product) → arrives y a ≡ false → OutsideCalendar ≡ span_answer y a k
 unfolding span_answer
-no_arrival y a k h = rw (h, and_false)
+no_arrival y a k h = rw (h, and-false)
 
 pub annual_span : (y a : ℕ) (k : Product) → k ≡ Annual → arrives y a ≡ true → annual_answer y a ≡ span_answer y a k
 unfolding span_answer annual_answer

@@ -1,7 +1,7 @@
 -- Laws of arrivals and of spans.
 -- Assumes nothing.
 use mathlib.Core.Path.{◌≡◌, refl}
-use mathlib.Core.Bool.{Bool, true, false, cond, ◌&&◌, and-true, and_false}
+use mathlib.Core.Bool.{Bool, true, false, cond, ◌&&◌, and-true, and-false}
 use Prim.Native.Nat.{ℕ, ◌+◌, ◌≤◌, ◌<◌}
 use native.Mathlib.Omega.{arith}
 use lib.Dec.{leb}
@@ -46,7 +46,7 @@ annual_from y a h = go (leb (next_first a) last_day) refl
     go true e = rw (h, last, and-true)
     go false e =
         let past : leb (next_first a) (thermal_last y) ≡ false = lt-leb (next_first a) (thermal_last y) (omega (arith, leb-false (next_first a) last_day e, (year_facts y h).last)) in
-        rw (h, past, and_false)
+        rw (h, past, and-false)
 
 pub no_annual : (y a : ℕ) → is_thermal_year y ≡ false → annual_answer y a ≡ span_where false 0 0
 unfolding annual_answer
@@ -104,7 +104,7 @@ september_first y a h from to =
 pub september_none : (y a : ℕ) → 2000 ≤ y → day_number (y + 1) 9 1 ≤ a → span_ok y a (annual_first a) (annual_last y) ≡ false
 september_none y a h from =
     let past : leb (next_first a) (thermal_last y) ≡ false = lt-leb (next_first a) (thermal_last y) (next_beyond y a h from) in
-    rw (past, and_false, and_false)
+    rw (past, and-false, and-false)
 
 -- whether an arrival is in time, as the calendar answers it
 timely_if : (t : Bool) → is_timely (cond t InTime Late) ≡ t
