@@ -1,7 +1,7 @@
 //! Links the archive of the proved register, `libhost.a`.
 //!
 //! It is looked for in the folder that the variable `YLGRANDI_LIB` names, else
-//! where `rt staticlib host` writes it. The tests link C programs with it and are
+//! where `tools/archive` writes it. The tests link C programs with it and are
 //! told where it was found.
 
 use std::env;
@@ -16,7 +16,7 @@ fn main() {
     let archive = folder.join("libhost.a");
     assert!(
         archive.is_file(),
-        "there is no {}: run `rt staticlib host` in the repository first",
+        "there is no {}: run `tools/archive` in the repository first",
         archive.display()
     );
     println!("cargo:rustc-link-search=native={}", folder.display());
