@@ -3,6 +3,8 @@
 //
 // The register goes in and comes back by value; the free amounts and the ledger are lent. No function that another crate can
 // name has a `requires`. The meaning of each answer is in specs/, and proofs/ has the laws that callers cite.
+#![tactic(auto)]
+
 mod fresh;
 mod reports;
 
