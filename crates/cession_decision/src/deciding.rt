@@ -13,7 +13,7 @@ use register::{Refusal, Register};
 
 // A cession at a point, which arrives on a gas-day: an amount from giver to receiver, on each day from the first of the month after
 // arrival to the year's end.
-#[derive(Drop)]
+#[derive(Clone, Copy)]
 pub struct Cession {
     pub giver: u8,
     pub receiver: u8,

@@ -3,6 +3,8 @@
 // Nothing is altered: the register is taken by value, and the free amounts and the ledger are lent to be read. No function
 // that another crate can name has a `requires`. The meaning of each answer is in specs/, and proofs/ has the laws that
 // callers cite.
+#![tactic(auto)]
+
 mod deciding;
 
 pub use deciding::{ANNUAL, Cession, Decision, Handover, LINES_WRITTEN, decide};

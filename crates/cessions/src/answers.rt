@@ -5,7 +5,7 @@ ghost use Rattle.cessions.specs.CedeCapacity.{number_of_answer, amount_of_answer
 use register::{Refusal, Register};
 
 // The amount ceded, or why nothing is.
-#[derive(Drop)]
+#[derive(Clone, Copy)]
 pub enum CessionAnswer {
     Amount(u32),
     Refused(Refusal),

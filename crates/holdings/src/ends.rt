@@ -8,7 +8,7 @@ use calendar::{GasDay, Span};
 use register::Line;
 
 // The first and the last day of a thermal year.
-#[derive(Drop)]
+#[derive(Clone, Copy)]
 pub(crate) struct Bounds {
     pub first: u16,
     pub last: u16,

@@ -12,7 +12,7 @@ use crate::holdings::Holding;
 use register::Line;
 
 // What a line adds, on each day from first to last.
-#[derive(Drop)]
+#[derive(Clone, Copy)]
 struct GatheredLine {
     pub first: u16,
     pub last: u16,

@@ -10,7 +10,7 @@ use crate::gathering::{Gathered, gather, part_on};
 
 // An amount that a user is to hold at a point, on each day from first to last.
 #[repr(C)]
-#[derive(Drop)]
+#[derive(Clone, Copy)]
 pub struct Holding {
     pub user: u8,
     pub point: u8,
