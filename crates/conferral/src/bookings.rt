@@ -12,7 +12,7 @@ use spans::is_span;
 
 // An amount granted to a user at a point, on each day from first to last. The kind is that of its ledger line: 1 annual, 2 month,
 // 3 day.
-#[derive(Drop)]
+#[derive(Clone, Copy)]
 pub struct Grant {
     pub user: u8,
     pub point: u8,

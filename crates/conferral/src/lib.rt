@@ -2,6 +2,8 @@
 // `spans`, when a call may arrive and the span to the year's end.
 //
 // No function that another crate can name has a `requires`. The meaning of each answer is in specs/.
+#![tactic(auto)]
+
 mod bookings;
 
 pub use bookings::{Grant, Posted, book, charge_within, covers_charge, is_covered, post};
