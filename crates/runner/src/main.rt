@@ -2,71 +2,85 @@
 //
 // It reads to the end of the input or to 48,000 bytes, whichever comes first, and no byte after them, and prints when all calls are
 // made. Where a read fails, no call is made and nothing is printed. What failed is said on standard error; the exit status does not
-// tell. Only where nobody reads the output any more does the system end the program without a word.
-ghost use Rattle.std.specs.Prelude.{◌≡◌, ◌+◌, ◌≤◌, length, take};
+// tell. Only where nobody reads the output any more does the program end without a word.
+#![tactic(auto)]
 
-use libc::{STDERR_FILENO, STDIN_FILENO, STDOUT_FILENO};
+ghost use Rattle.std.specs.Prelude.{◌≡◌, ◌+◌, ◌≤◌, ◌<◌, length, take, drop, IfOk};
+ghost use Rattle.std.specs.Io.KnownBytes.{Consumes, IsAtEnd};
 
-// How many bytes were read, and whether a read failed.
-#[derive(Drop)]
-struct Input {
-    count: usize,
-    is_failure: bool,
-}
+use std::io;
+use std::io::{Eprint, ErrorKind, Read, Write};
 
-// One read into the space from a place on. No byte comes at the end of the input, or where the read fails.
-fn read_some(space: &mut [u8], place: usize) -> Input
+// One read into the space from a place on, behind what stands there. No byte comes at the end of the input.
+fn read_some<R: Read>(input: &mut R, space: &mut [u8], place: usize) -> io::Result<usize>
     requires { place ≤ length space.old }
-    ensures { place + result.count ≤ length space.old }
+    ensures within { IfOk result (λ count. place + count ≤ length space.old) }
+    ensures before { take place space.new ≡ take place space.old }
+    ensures bytes { IfOk result (λ count. Consumes (R.remaining input.old) (R.remaining input.new)
+        (take count (drop place space.new))) }
+    ensures end { IfOk result (λ count. count ≡ 0 → place < length space.old → IsAtEnd (R.remaining input.new)) }
 {
-    let part: &mut [u8] = &mut space[place..];
-    let got = libc::read(STDIN_FILENO, part);
-    let count = io::count(got, part);
-    Input {
-        count,
-        is_failure: got < 0,
-    }
+    input.read(&mut space[place..])
 }
 
-// Fills the space from its start, read after read, however few bytes each of them brings.
-fn read_input(space: &mut [u8]) -> Input
-    ensures { (result.count ≤ length space.new) × (result.count ≡ length (take result.count space.new)) }
+// Fills the space from its start, read after read, however few bytes each of them brings. They are the first bytes of the input, no
+// other is taken from it, and where they are fewer than the space holds, none is left.
+fn read_input<R: Read>(input: &mut R, space: &mut [u8]) -> io::Result<usize>
+    ensures within { IfOk result (λ count. (count ≤ length space.new) × (count ≡ length (take count space.new))) }
+    ensures bytes { IfOk result (λ count. Consumes (R.remaining input.old) (R.remaining input.new)
+        (take count space.new)) }
+    ensures end { IfOk result (λ count. count < length space.new → IsAtEnd (R.remaining input.new)) }
 {
     let mut count: usize = 0;
     while count < space.len() {
-        let more = read_some(space, count);
-        if more.count == 0 {
-            return Input {
-                count,
-                is_failure: more.is_failure,
-            };
+        let more = read_some(input, space, count)?;
+        if more == 0 {
+            return Ok(count);
         }
-        count += more.count;
+        count += more;
     }
-    Input {
-        count,
-        is_failure: false,
+    Ok(count)
+}
+
+// The system's words for what failed, without its number.
+fn words_of(failure: &str) -> &str {
+    match failure.split_once(" (os error ") {
+        Some((words, _number)) => words,
+        None => failure,
     }
 }
 
-fn main() {
-    let mut space = [0u8; runs::INPUT];
-    let input = read_input(&mut space);
-    if input.is_failure {
-        os::fail(b"runner: standard input");
-        return;
+// Says on standard error which stream failed, and why. That nobody reads any more is no failure.
+fn say_failed<R: Eprint + Alloc>(rt: &R, stream: &str, failure: io::Error) -> io::Result<()> {
+    if failure.kind() == ErrorKind::BrokenPipe {
+        return Ok(());
     }
-    let count = input.count;
+    match failure.to_string(rt.alloc()) {
+        Ok(said) => eprintln!(rt; "runner: {stream}: {}", words_of(said.as_str())),
+        // Out of memory.
+        Err(_) => eprintln!(rt; "runner: {stream}: {failure}"),
+    }
+}
+
+fn main(rt: HostRuntime) {
+    let mut space = [0u8; runs::INPUT];
+    let count = match read_input(&mut rt.stdin(), &mut space) {
+        Ok(count) => count,
+        Err(failure) => {
+            let _ = say_failed(&rt, "standard input", failure);
+            return;
+        }
+    };
     let mut free = [0u32; parts::TABLE];
     let mut ledger = [0u32; parts::LEDGER];
     let mut lines = [0u8; runs::BUFFER];
     let ran = runs::run(&space[..count], &mut free, &mut ledger, &mut lines);
     // The lists and the buffer are as long as a run asks, so that it is never refused; if it were, this would say so.
     if ran.number != 0 {
-        io::write_all(STDERR_FILENO, b"runner: the run was refused\n");
+        let _ = eprintln!(rt; "runner: the run was refused");
     }
     let written = ran.written;
-    if !io::write_all(STDOUT_FILENO, &lines[..written]) {
-        os::fail(b"runner: standard output");
+    if let Err(failure) = rt.stdout().write_all(&lines[..written]) {
+        let _ = say_failed(&rt, "standard output", failure);
     }
 }
