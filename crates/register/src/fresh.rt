@@ -8,6 +8,7 @@ use parts::{Filed, LEDGER, Refusal, TABLE, Verdict, blank};
 use tables::clear;
 
 // Are the year and the lengths of both lists within limits?
+#[tactic(auto, unfolding(crate::specs::Fresh::fresh_number))]
 fn fresh_answer(year: u16, free: &[u32], ledger: &[u32]) -> Verdict
     ensures { number_of_verdict result ≡ fresh_number year free.now ledger.now }
 {

@@ -11,6 +11,7 @@ use order::in_order;
 use parts::{POINTS, Refusal, Register, Report, Verdict, is_open};
 
 // Questions 1, 2, 3 and 8.
+#[tactic(auto, unfolding(crate::specs::Reports::report_number))]
 fn report_answer(r: Register, free: &[u32], ledger: &[u32], point: u8, day: u16) -> Verdict
     ensures { number_of_verdict result ≡ report_number (state r free.now ledger.now) point day }
 {
