@@ -7,6 +7,7 @@ ghost use Rattle.turning.specs.TurnYear.{turn_number, settled_accounts, turned_r
 use register::{Account, Filed, Refusal, Register, Verdict};
 
 // Questions 1, 2 and 15.
+#[tactic(auto, unfolding(crate::specs::TurnYear::turn_number))]
 fn turn_answer(r: Register, free: &[u32], ledger: &[u32], year: u16) -> Verdict
     ensures { number_of_verdict result ≡ turn_number (state r free.now ledger.now) year }
 {
