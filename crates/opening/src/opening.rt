@@ -20,6 +20,7 @@ fn fields_within_limits(point: u8, kind: u8, total: u64, rate: u32) -> bool
 }
 
 // Questions 1, 2 and 4.
+#[tactic(auto, unfolding(crate::specs::OpenPoint::open_number))]
 fn open_answer(
     r: Register,
     free: &[u32],
