@@ -3,6 +3,8 @@
 //
 // The call takes the register by value and gives it back with its answer; the free amounts, the ledger and the four lists of the
 // batch's lines are lent. No function that another crate can name has a `requires`. The meaning of each answer is in specs/.
+#![tactic(auto)]
+
 mod conferring;
 mod lines;
 
