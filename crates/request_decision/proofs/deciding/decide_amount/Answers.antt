@@ -41,7 +41,7 @@ returns-then-amount-eq0 c =
     let covered : asks-cover-here ≡ true = sym answers-cover ∙ c.if-not-is_covered.false in
     let asks-free : Bool = free_throughout c.args.r c.args.free.now c.args.q in
     let answers-free : ltb 0 amount ≡ asks-free = granted_free c.args.r c.args.free.now c.args.q of_fields.amount.from in
-    rw (covered, sym answers-free ∙ le-ltb 0 amount (omega (arith, granted, c.if-amount-eq0.true)))
+    rw (covered, sym answers-free ∙ le-ltb 0 amount (omega (arith, granted)))
 
 pub returns-then-r-ge-LINES : goal.returns-then-r-ge-LINES
 returns-then-r-ge-LINES c =
@@ -53,7 +53,7 @@ returns-then-r-ge-LINES c =
     let granted : c.least_free-amount.result ≡ amount = c.least_free-amount.ensures ∙ ap (λ (g : Grant). least_of c.args.free.now c.entry_in-place.result (span_days c.args.first c.args.last) g.amount) c.grant_from-asked.ensures ∙ granted_is c.args.r c.args.free.now c.args.q c.args.first c.args.last _ c.requires.1 c.entry_in-place.ensures in
     let asks-free : Bool = free_throughout c.args.r c.args.free.now c.args.q in
     let answers-free : ltb 0 amount ≡ asks-free = granted_free c.args.r c.args.free.now c.args.q of_fields.amount.from in
-    let free : asks-free ≡ true = sym answers-free ∙ lt-ltb 0 amount (omega (arith, granted, c.if-amount-eq0.false)) in
+    let free : asks-free ≡ true = sym answers-free ∙ lt-ltb 0 amount (omega (arith, granted)) in
     rw (covered, free, lt-leb (c.args.r.lines + 1) line_count (omega arith))
 
 pub returns : goal.returns
@@ -66,7 +66,7 @@ returns c =
     let covered : asks-cover-here ≡ true = sym answers-cover ∙ c.if-not-is_covered.false in
     let asks-free : Bool = free_throughout c.args.r c.args.free.now c.args.q in
     let answers-free : ltb 0 amount ≡ asks-free = granted_free c.args.r c.args.free.now c.args.q of_fields.amount.from in
-    let free : asks-free ≡ true = sym answers-free ∙ lt-ltb 0 amount (omega (arith, granted, c.if-amount-eq0.false)) in (
+    let free : asks-free ≡ true = sym answers-free ∙ lt-ltb 0 amount (omega (arith, granted)) in (
       rw (covered, free, le-leb (c.args.r.lines + 1) line_count (omega arith)),
       grant_is c.args.r c.args.q c.args.first c.args.last _ amount c.grant_from-granted.result c.requires.1 c.grant_from-granted.ensures granted,
     )
