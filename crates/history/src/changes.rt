@@ -10,7 +10,7 @@ use register::Register;
 use requests::Request;
 
 // A point to be opened.
-#[derive(Drop)]
+#[derive(Clone, Copy)]
 pub struct Opening {
     pub point: u8,
     pub kind: u8,
@@ -19,14 +19,14 @@ pub struct Opening {
 }
 
 // A guarantee to be placed.
-#[derive(Drop)]
+#[derive(Clone, Copy)]
 pub struct Guarantee {
     pub user: u8,
     pub guarantee: u64,
 }
 
 // A changing call. A batch has its point here, and its lists are lent beside it.
-#[derive(Drop)]
+#[derive(Clone, Copy)]
 pub enum Change {
     OpenPoint(Opening),
     PlaceGuarantee(Guarantee),
