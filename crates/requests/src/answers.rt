@@ -5,7 +5,7 @@ ghost use Rattle.requests.specs.RequestCapacity.{number_of_conferral, amount_of_
 use register::{Refusal, Register};
 
 // The amount granted, or why nothing is.
-#[derive(Drop)]
+#[derive(Clone, Copy)]
 pub enum Conferral {
     Granted(u32),
     Refused(Refusal),
