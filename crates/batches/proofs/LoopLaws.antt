@@ -61,6 +61,9 @@ module _ (s : State) (b : Batch) (m n : ℕ) where
         unfolding batch_number
         batch_zero l = rw (h, f, o, le-leb (s.register.lines + lines_of b) line_count l)
 
+-- a law for each exit of `batch_answer`
+pub ruleset batch_exits = (batch_one, batch_two, batch_three, batch_thirteen, batch_zero)
+
 -- ---- the bookings: one more
 pub book_more : (s t v : State) (y p : ℕ) (us shares : List ℕ) (i : ℕ) (g : Grant) → t ≡ book_some s y p us shares i
     → g ≡ grant_for y (get_or us i 0) p (get_or shares i 0)

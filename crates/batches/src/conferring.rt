@@ -13,6 +13,7 @@ use crate::lines::{USERS, grant_to, year_grant};
 use register::{Filed, Refusal, Register, Verdict};
 
 // Questions 1, 2, 3 and 13; the lists for shares and numbers have so many places.
+#[tactic(auto, using(crate::proofs::LoopLaws::batch_exits))]
 fn batch_answer(
     r: Register,
     free: &[u32],
