@@ -1,7 +1,7 @@
 -- What a request by numbers is, by its kind.
 -- Assumes nothing.
 use Prim.Native.Nat.{ℕ}
-use mathlib.Core.Bool.{cond, and_false}
+use mathlib.Core.Bool.{cond, and-false}
 use mathlib.Core.Path.{◌≡◌, ap, sym, ◌∙◌, subst}
 use borrow.Author.Tests.{ne_eqb}
 use Rattle.parts.specs.Registers.{State}
@@ -41,7 +41,7 @@ requested s user point arrival amount number granted t e h = subst (Requested s 
 -- a month 0 is refused by question 2, after question 1
 no_month : (s : State) (user point arrival amount : ℕ) → request_number s (request_of user point (Month 0) arrival amount) ≡ cond (in_order s) 2 1
 unfolding request_number
-no_month s user point arrival amount = rw and_false
+no_month s user point arrival amount = rw and-false
 
 -- a request of a kind that there is not is answered 2, and in a register that is not in order 1
 pub another_kind : (s : State) (user point kind month day arrival amount : ℕ) → (kind ≡ 1 → ⊥) → (kind ≡ 2 → ⊥) → (kind ≡ 3 → ⊥)

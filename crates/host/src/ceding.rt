@@ -9,8 +9,7 @@ use cessions::Cession;
 use register::Register;
 
 // Cedes an amount from giver to receiver, for the rest of the year.
-#[unsafe(no_mangle)]
-pub extern "C" fn ylgrandi_cession(
+pub fn ylgrandi_cession(
     r: Register,
     free: &mut [u32],
     ledger: &mut [u32],

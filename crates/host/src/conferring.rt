@@ -8,8 +8,7 @@ use applied::Applied;
 use register::Register;
 
 // Confers a batch at a point for the whole year. Shares and numbers of its lines go to the two last lists.
-#[unsafe(no_mangle)]
-pub extern "C" fn ylgrandi_batch(
+pub fn ylgrandi_batch(
     r: Register,
     free: &mut [u32],
     ledger: &mut [u32],

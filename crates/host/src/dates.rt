@@ -26,8 +26,7 @@ fn moved_date(date: Date) -> Moved
 }
 
 // Moves a date on by one gas-day.
-#[unsafe(no_mangle)]
-pub extern "C" fn ylgrandi_next_day(date: &mut Date) -> u8
+pub fn ylgrandi_next_day(date: &mut Date) -> u8
     ensures { (result ≡ move_number (next_date_answer date.old)) ×
         (date.new ≡ moved_date date.old (next_date_answer date.old)) }
 {

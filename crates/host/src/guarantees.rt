@@ -7,8 +7,7 @@ use applied::Applied;
 use register::Register;
 
 // Puts a user on file, or replaces his guarantee.
-#[unsafe(no_mangle)]
-pub extern "C" fn ylgrandi_place_guarantee(
+pub fn ylgrandi_place_guarantee(
     r: Register,
     free: &[u32],
     ledger: &[u32],

@@ -7,8 +7,7 @@ use applied::Applied;
 use register::Register;
 
 // Opens a point: every gas-day of the year is free to the total.
-#[unsafe(no_mangle)]
-pub extern "C" fn ylgrandi_open_point(
+pub fn ylgrandi_open_point(
     r: Register,
     free: &mut [u32],
     ledger: &[u32],

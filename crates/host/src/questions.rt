@@ -11,8 +11,7 @@ use register::Register;
 const NO_DAY: u32 = 65_536;
 
 // Question 1: is the register in order?
-#[unsafe(no_mangle)]
-pub extern "C" fn ylgrandi_in_order(r: Register, free: &[u32], ledger: &[u32]) -> bool
+pub fn ylgrandi_in_order(r: Register, free: &[u32], ledger: &[u32]) -> bool
     ensures { result ≡ in_order (state r free.now ledger.now) }
 {
     register::in_order(r, free, ledger)
@@ -20,8 +19,7 @@ pub extern "C" fn ylgrandi_in_order(r: Register, free: &[u32], ledger: &[u32]) -
 
 // Question 10: the first gas-day of the span on which the user holds less than the amount; 65,536 where there is none. In a register
 // that is not in order a line counts only where it begins in the year.
-#[unsafe(no_mangle)]
-pub extern "C" fn ylgrandi_first_short_day(year: u16, lines: u16, ledger: &[u32], h: Holding) -> u32
+pub fn ylgrandi_first_short_day(year: u16, lines: u16, ledger: &[u32], h: Holding) -> u32
     ensures { result ≡ short_day (held_answer year lines ledger.now h) }
 {
     let held = holdings::first_short_day(year, lines, ledger, h);

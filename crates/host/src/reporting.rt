@@ -14,14 +14,7 @@ pub struct Reported {
 }
 
 // The free amount of a point and gas-day.
-#[unsafe(no_mangle)]
-pub extern "C" fn ylgrandi_report(
-    r: Register,
-    free: &[u32],
-    ledger: &[u32],
-    point: u8,
-    day: u16,
-) -> Reported
+pub fn ylgrandi_report(r: Register, free: &[u32], ledger: &[u32], point: u8, day: u16) -> Reported
     ensures number { result.number ≡ report_number (state r free.now ledger.now) point day }
     ensures amount { result.amount ≡ report_amount (state r free.now ledger.now) point day }
 {

@@ -22,8 +22,7 @@ fn product_of(kind: u8, month: u8, day: u16) -> Product
 
 // Requests an amount: for the rest of the year (kind 1), for a month (2) or for a gas-day (3). Month and day are read where the kind
 // has them.
-#[unsafe(no_mangle)]
-pub extern "C" fn ylgrandi_request(
+pub fn ylgrandi_request(
     r: Register,
     free: &mut [u32],
     ledger: &mut [u32],

@@ -7,13 +7,7 @@ use applied::Applied;
 use register::Register;
 
 // Turns the register to a later year: totals are free again, the ledger is empty and commitments are 0.
-#[unsafe(no_mangle)]
-pub extern "C" fn ylgrandi_turn_year(
-    r: Register,
-    free: &mut [u32],
-    ledger: &mut [u32],
-    year: u16,
-) -> Applied
+pub fn ylgrandi_turn_year(r: Register, free: &mut [u32], ledger: &mut [u32], year: u16) -> Applied
     ensures number { result.number ≡ turn_number (state r free.old ledger.old) year }
     ensures amount { result.amount ≡ 0 }
     ensures state { state result.register free.new ledger.new ≡ turn_after

@@ -2,8 +2,8 @@
 //! them out.
 //!
 //! Nothing checks these declarations against the Rattle source: they stand as
-//! crates/host/src has them, and as host/include/ylgrandi.h has them for C. The
-//! functions below are safe, since no call has a `requires`: whatever the
+//! crates/host_c/src has them, and as host/include/ylgrandi.h has them for C.
+//! The functions below are safe, since no call has a `requires`: whatever the
 //! register, the lists and the numbers are, it ends, stays inside the slices and
 //! answers. [`crate::Register`] keeps a register and its lists together; these
 //! functions are for a host that lays its memory out itself.

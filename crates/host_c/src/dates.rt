@@ -1,0 +1,14 @@
+// A date lent by the host, moved on by one gas-day in the host's own record.
+ghost use Rattle.std.specs.Prelude.{◌≡◌};
+ghost use Rattle.days.specs.Answers.{next_date_answer, move_number, moved_date};
+
+use days::Date;
+
+// Moves a date on by one gas-day.
+#[unsafe(no_mangle)]
+pub extern "C" fn ylgrandi_next_day(date: &mut Date) -> u8
+    ensures { (result ≡ move_number (next_date_answer date.old)) ×
+        (date.new ≡ moved_date date.old (next_date_answer date.old)) }
+{
+    host::ylgrandi_next_day(date)
+}

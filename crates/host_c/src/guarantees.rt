@@ -1,0 +1,24 @@
+// Place guarantee.
+ghost use Rattle.std.specs.Prelude.{◌≡◌};
+ghost use Rattle.parts.specs.Registers.{state};
+ghost use Rattle.placing.specs.PlaceGuarantee.{place_number, place_after};
+
+use applied::Applied;
+use register::Register;
+
+// Puts a user on file, or replaces his guarantee.
+#[unsafe(no_mangle)]
+pub extern "C" fn ylgrandi_place_guarantee(
+    r: Register,
+    free: &[u32],
+    ledger: &[u32],
+    user: u8,
+    guarantee: u64,
+) -> Applied
+    ensures number { result.number ≡ place_number (state r free.now ledger.now) user guarantee }
+    ensures amount { result.amount ≡ 0 }
+    ensures state { state result.register free.now ledger.now ≡ place_after
+        (state r free.now ledger.now) user guarantee }
+{
+    host::ylgrandi_place_guarantee(r, free, ledger, user, guarantee)
+}
