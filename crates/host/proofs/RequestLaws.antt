@@ -2,13 +2,13 @@
 -- Assumes nothing.
 use Prim.Native.Nat.{ℕ}
 use mathlib.Core.Bool.{cond, and-false}
-use mathlib.Core.Path.{◌≡◌, ap, sym, ◌∙◌, subst}
+use mathlib.Core.Path.{◌≡◌, ap, sym, ◌∙◌}
 use borrow.Author.Tests.{ne_eqb}
 use Rattle.parts.specs.Registers.{State}
 use Rattle.order.specs.Order.{in_order}
 use Rattle.products.specs.declared.products.Product.{Product}
 use Rattle.products.specs.declared.products.Product.TheVariants.{Annual, Month, Day}
-use Rattle.requests.specs.RequestCapacity.{request_number, request_amount, request_after}
+use Rattle.requests.specs.RequestCapacity.{request_number}
 use Rattle.host.specs.Requests.{product_of, request_of}
 
 module _ (kind month day : ℕ) where
@@ -27,16 +27,6 @@ module _ (kind month day : ℕ) where
   pub is_none : (kind ≡ 1 → ⊥) → (kind ≡ 2 → ⊥) → (kind ≡ 3 → ⊥) → Month 0 ≡ product_of kind month day
   unfolding product_of
   is_none a m d = rw (ne_eqb kind 1 a, ne_eqb kind 2 m, ne_eqb kind 3 d)
-
--- number, amount granted and state of a request made on s, and the same where the product goes by another name
-abbrev pub Requested : State → ℕ → ℕ → ℕ → ℕ → ℕ → ℕ → State → Product → Type 0
-Requested s user point arrival amount number granted t x =
-    (number ≡ request_number s (request_of user point x arrival amount))
-    × ((granted ≡ request_amount s (request_of user point x arrival amount)) × (t ≡ request_after s (request_of user point x arrival amount)))
-
-pub requested : (s : State) (user point arrival amount number granted : ℕ) (t : State) {x y : Product} → x ≡ y → Requested s user point arrival amount number granted t x
-    → Requested s user point arrival amount number granted t y
-requested s user point arrival amount number granted t e h = subst (Requested s user point arrival amount number granted t) e h
 
 -- a month 0 is refused by question 2, after question 1
 no_month : (s : State) (user point arrival amount : ℕ) → request_number s (request_of user point (Month 0) arrival amount) ≡ cond (in_order s) 2 1
