@@ -1,12 +1,12 @@
 -- A request that should be answered 0 should be granted its amount, or be cut as is due.
 -- Assumes nothing.
 use mathlib.Core.Path.{◌≡◌, refl, subst}
-use mathlib.Core.Logic.{◌⊎◌, ⊎_elim}
+use mathlib.Core.Logic.{⊎_elim}
 use Prim.Native.Nat.{ℕ, ◌+◌, ◌-◌, ◌≤◌, ◌<◌}
 use native.Mathlib.Omega.{arith}
 use lib.Dec.{ltb}
 use borrow.Author.Tests.{ltb-true}
-use Rattle.amounts.proofs.RangeLaws.{smallest-le, smallest-at, smallest-is}
+use Rattle.expected.proofs.SmallestLaws.{smallest_le, smallest_at, smallest_is}
 use Rattle.parts.proofs.AnswerLaws.{passes}
 use Rattle.parts.proofs.TestLaws.{all_at}
 use Rattle.products.specs.declared.products.Request.{Request}
@@ -26,14 +26,14 @@ module _ (k : Reckoning) (q : Request) (z : number_by k (request_capacity q) ≡
   least d h =
       let e : span_first_by k q + (d - span_first_by k q) ≡ d = omega (arith, h.0) in
       subst (λ (x : ℕ). granted ≤ free_for k q x) e
-      (smallest-at q.amount (free_in_span k q) (days_asked_by k q) (d - span_first_by k q) (omega (arith, h.0, h.1)))
+      (smallest_at q.amount (free_in_span k q) (days_asked_by k q) (d - span_first_by k q) (omega (arith, h.0, h.1)))
 
   -- where it is cut, one of the days has just that
   reached : granted < q.amount → (d : ℕ) × (InSpan k q d × (free_for k q d ≡ granted))
   reached h =
       ⊎_elim (λ (e : granted ≡ q.amount). absurd (omega (arith, e, h)))
       (λ (r : (i : ℕ) × ((i < days_asked_by k q) × (free_in_span k q i ≡ granted))). (span_first_by k q + r.0, ((omega arith, omega (arith, r.1.0)), r.1.1)))
-      (smallest-is q.amount (free_in_span k q) (days_asked_by k q))
+      (smallest_is q.amount (free_in_span k q) (days_asked_by k q))
 
   -- questions 2 and 12: something is asked, and something is free on every day
   some : 0 < granted
@@ -43,7 +43,7 @@ module _ (k : Reckoning) (q : Request) (z : number_by k (request_capacity q) ≡
       ⊎_elim (λ (e : granted ≡ q.amount). omega (arith, e, asked.from))
       (λ (r : (i : ℕ) × ((i < days_asked_by k q) × (free_in_span k q i ≡ granted))).
       omega (arith, r.1.1, ltb-true 0 (free_in_span k q r.0) (all_at (λ i. ltb 0 (free_in_span k q i)) (days_asked_by k q) r.0 a.1.1.1.1.1.1.1.0 r.1.0)))
-      (smallest-is q.amount (free_in_span k q) (days_asked_by k q))
+      (smallest_is q.amount (free_in_span k q) (days_asked_by k q))
 
   pub fair : Fair k q granted
   fair =
@@ -52,6 +52,6 @@ module _ (k : Reckoning) (q : Request) (z : number_by k (request_capacity q) ≡
         cut_only_if = λ h. let t = reached h in (t.0, (t.1.0, omega (arith, t.1.1, h)));
         smallest = λ h. least;
         reached = reached;
-        whole = λ n. let g = smallest-le q.amount (free_in_span k q) (days_asked_by k q) in omega (arith, g, n);
+        whole = λ n. let g = smallest_le q.amount (free_in_span k q) (days_asked_by k q) in omega (arith, g, n);
         some = some;
       }

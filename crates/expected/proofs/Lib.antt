@@ -1,3 +1,4 @@
+pub mod SmallestLaws
 pub mod AlikeLaws
 pub mod Agreement
 pub mod BackingSums

@@ -16,10 +16,12 @@ use Rattle.parts.specs.Registers.{State, point_at, account_at}
 use Rattle.parts.specs.Answers.{number_of}
 use Rattle.parts.specs.Points.{is_open}
 use Rattle.parts.proofs.TestLaws.{all_same}
-use Rattle.amounts.specs.Ranges.{smallest_of, least_of}
+use Rattle.amounts.specs.Ranges.{least_of}
+use Rattle.expected.specs.Smallest.{smallest_of}
 use Rattle.amounts.specs.Amounts.{span_days, year_days, entry_at, entry_of, free_on}
 use Rattle.amounts.proofs.CalendarLaws.{year_facts, day_in_lem}
-use Rattle.amounts.proofs.RangeLaws.{replaced_same, smallest-same, sum_same}
+use Rattle.amounts.proofs.RangeLaws.{replaced_same, sum_same}
+use Rattle.expected.proofs.SmallestLaws.{smallest_same, least_smallest}
 use Rattle.register.specs.Reports.{report_questions, report_number, report_amount}
 use Rattle.order.proofs.OrderFacts.{ordered}
 use Rattle.register.proofs.ReportLaws.{report_facts}
@@ -129,9 +131,10 @@ module _ (s : State) (k : Reckoning) (w : Agree s k) where
           ∙ ap (λ (x : ℕ). all_below (span_days (first_of x q.arrival q.product) (last_of x q.arrival q.product)) (λ i. ltb 0 (free_by k q.point (first_of x q.arrival q.product + i)))) w.year
 
       granted_same : amount_granted s.register s.free q ≡ amount_granted_by k q
-      unfolding amount_granted least_of
+      unfolding amount_granted
       granted_same =
-          smallest-same q.amount (λ i. get_or s.free (span_place s.register q + i) 0) (λ i. free_by k q.point (span_first s.register q + i)) (days_asked s.register q) run
+          least_smallest s.free (span_place s.register q) q.amount (days_asked s.register q)
+          ∙ smallest_same q.amount (λ i. get_or s.free (span_place s.register q + i) 0) (λ i. free_by k q.point (span_first s.register q + i)) (days_asked s.register q) run
           ∙ ap (λ (x : ℕ). smallest_of q.amount (λ i. free_by k q.point (first_of x q.arrival q.product + i)) (span_days (first_of x q.arrival q.product) (last_of x q.arrival q.product))) w.year
 
     request_alike : Alike (request_questions s q) (request_questions_by k q)
@@ -161,12 +164,13 @@ module _ (s : State) (k : Reckoning) (w : Agree s k) where
         ∙ free_by_lem s k w p (thermal_first y + i) opened (day_in_lem y (thermal_first y + i) year (omega arith) (omega (arith, l)))
 
     pub free_year : free_of_year s p ≡ free_of_year_by k p
-    unfolding free_of_year least_of
+    unfolding free_of_year
     free_year =
         let first : entry_at p 0 ≡ entry_at p 0 + 0 = omega arith in
         let some = (year_facts y (ordered s w.sound.order).year).least in
         ap (λ (m : ℕ). least_of s.free (entry_at p 0) (year_days y) m) (ap (λ (j : ℕ). get_or s.free j 0) first ∙ year_run 0 (omega (arith, some)))
-        ∙ smallest-same (free_by k p (thermal_first y + 0)) (λ i. get_or s.free (entry_at p 0 + i) 0) (λ i. free_by k p (thermal_first y + i)) (year_days y) year_run
+        ∙ least_smallest s.free (entry_at p 0) (free_by k p (thermal_first y + 0)) (year_days y)
+        ∙ smallest_same (free_by k p (thermal_first y + 0)) (λ i. get_or s.free (entry_at p 0 + i) 0) (λ i. free_by k p (thermal_first y + i)) (year_days y) year_run
         ∙ ap (λ (x : ℕ). smallest_of (free_by k p (thermal_first x + 0)) (λ i. free_by k p (thermal_first x + i)) (year_days x)) w.year
 
   module _ (b : Batch) where

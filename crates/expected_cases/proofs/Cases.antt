@@ -23,7 +23,8 @@ use Rattle.working_days.specs.WorkingDays.{
 use Rattle.calendar.proofs.Cases.{cases}
 use Rattle.parts.specs.Tests.{all_below, some_below}
 use Rattle.parts.specs.Charges.{charge}
-use Rattle.amounts.specs.Ranges.{replaced, smallest_of, sum_below}
+use Rattle.amounts.specs.Ranges.{replaced, sum_below}
+use Rattle.expected.specs.Smallest.{smallest_of}
 use Rattle.amounts.specs.Amounts.{span_days}
 use Rattle.register.specs.Fresh.{fresh_state}
 use Rattle.products.specs.declared.products.Product.TheVariants.{Annual}

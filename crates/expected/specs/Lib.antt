@@ -1,3 +1,4 @@
+pub mod Smallest
 pub mod Calls
 pub mod Reckoning
 pub mod Expected

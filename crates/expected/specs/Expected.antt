@@ -18,7 +18,8 @@ use Rattle.parts.specs.Limits.{point_count, line_count}
 use Rattle.parts.specs.Tests.{all_below}
 use Rattle.parts.specs.Answers.{Question, ◌asks◌, number_of, leaves}
 use Rattle.parts.specs.Charges.{charge}
-use Rattle.amounts.specs.Ranges.{smallest_of, sum_below}
+use Rattle.amounts.specs.Ranges.{sum_below}
+use Rattle.expected.specs.Smallest.{smallest_of}
 use Rattle.amounts.specs.Amounts.{span_days, year_days}
 use Rattle.spans.specs.Spans.{annual_first, annual_last, span_ok}
 use Rattle.opening.specs.OpenPoint.{open_fields}
