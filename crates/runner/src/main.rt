@@ -5,11 +5,20 @@
 // tell. Only where nobody reads the output any more does the program end without a word.
 #![tactic(auto)]
 
-ghost use Rattle.std.specs.Prelude.{◌≡◌, ◌+◌, ◌≤◌, ◌<◌, length, take, drop, IfOk};
-ghost use Rattle.std.specs.Io.KnownBytes.{Consumes, IsAtEnd};
+ghost use Rattle.std.specs.Prelude.{◌≡◌, ◌+◌, ◌≤◌, ◌<◌, length, take, drop, Some, IfSome, IfOk, IfErr, OnOk};
+ghost use Rattle.std.specs.Io.KnownBytes.{Appends, Consumes, IsAtEnd, Keeps};
+ghost use Rattle.runs.specs.Runs.{printed};
+ghost use Rattle.runner.specs.Failures.{IfReading};
 
 use std::io;
 use std::io::{Eprint, ErrorKind, Read, Write};
+
+// What failed before all lines were written.
+#[derive(Drop)]
+enum Failure {
+    Reading(io::Error),
+    Writing(io::Error),
+}
 
 // One read into the space from a place on, behind what stands there. No byte comes at the end of the input.
 fn read_some<R: Read>(input: &mut R, space: &mut [u8], place: usize) -> io::Result<usize>
@@ -23,13 +32,14 @@ fn read_some<R: Read>(input: &mut R, space: &mut [u8], place: usize) -> io::Resu
     input.read(&mut space[place..])
 }
 
-// Fills the space from its start, read after read, however few bytes each of them brings. They are the first bytes of the input, no
-// other is taken from it, and where they are fewer than the space holds, none is left.
+// Fills the space from its start, read after read, however few bytes each of them brings: with the first bytes of the input, and no
+// byte behind them is taken.
 fn read_input<R: Read>(input: &mut R, space: &mut [u8]) -> io::Result<usize>
     ensures within { IfOk result (λ count. (count ≤ length space.new) × (count ≡ length (take count space.new))) }
-    ensures bytes { IfOk result (λ count. Consumes (R.remaining input.old) (R.remaining input.new)
-        (take count space.new)) }
-    ensures end { IfOk result (λ count. count < length space.new → IsAtEnd (R.remaining input.new)) }
+    ensures first { IfOk result (λ count. IfSome (R.remaining input.old) (λ bytes.
+        take count space.new ≡ take (length space.old) bytes)) }
+    ensures behind { OnOk result (IfSome (R.remaining input.old) (λ bytes.
+        R.remaining input.new ≡ Some (drop (length space.old) bytes))) }
 {
     let mut count: usize = 0;
     while count < space.len() {
@@ -62,25 +72,36 @@ fn say_failed<R: Eprint + Alloc>(rt: &R, stream: &str, failure: io::Error) -> io
     }
 }
 
-fn main(rt: HostRuntime) {
+// Takes the records of an input, makes their calls and writes their lines when all are made. Where a read fails, nothing is written.
+fn answer_records<R: Read, W: Write>(input: &mut R, output: &mut W) -> Result<(), Failure>
+    ensures lines { OnOk result (IfSome (R.remaining input.old) (λ bytes.
+        Appends (W.contents output.old) (W.contents output.new) (printed bytes))) }
+    ensures behind { OnOk result (IfSome (R.remaining input.old) (λ bytes.
+        R.remaining input.new ≡ Some (drop 48000 bytes))) }
+    ensures unread { IfErr result (λ failure. IfReading failure (Keeps (W.contents output.old) (W.contents output.new))) }
+{
     let mut space = [0u8; runs::INPUT];
-    let count = match read_input(&mut rt.stdin(), &mut space) {
+    let count = match read_input(input, &mut space) {
         Ok(count) => count,
-        Err(failure) => {
-            let _ = say_failed(&rt, "standard input", failure);
-            return;
-        }
+        Err(e) => return Err(Failure::Reading(e)),
     };
     let mut free = [0u32; parts::TABLE];
     let mut ledger = [0u32; parts::LEDGER];
     let mut lines = [0u8; runs::BUFFER];
+    // The lists and the buffer are as long as a run asks, so that it is never refused.
     let ran = runs::run(&space[..count], &mut free, &mut ledger, &mut lines);
-    // The lists and the buffer are as long as a run asks, so that it is never refused; if it were, this would say so.
-    if ran.number != 0 {
-        let _ = eprintln!(rt; "runner: the run was refused");
-    }
     let written = ran.written;
-    if let Err(failure) = rt.stdout().write_all(&lines[..written]) {
-        let _ = say_failed(&rt, "standard output", failure);
+    match output.write_all(&lines[..written]) {
+        Ok(()) => Ok(()),
+        Err(e) => Err(Failure::Writing(e)),
+    }
+}
+
+fn main(rt: HostRuntime) {
+    if let Err(failure) = answer_records(&mut rt.stdin(), &mut rt.stdout()) {
+        let _ = match failure {
+            Failure::Reading(e) => say_failed(&rt, "standard input", e),
+            Failure::Writing(e) => say_failed(&rt, "standard output", e),
+        };
     }
 }
