@@ -21,7 +21,7 @@ demand_3 y h cs =
     let agrees : (calls : List Call) → Agree (after_all (fresh_state y) calls) (reckon (begin y) calls (answers (fresh_state y) calls)) =
     λ calls. list_agrees (fresh_state y) (begin y) calls (agree_fresh y h) in
     record {
-      after_all_lem = balances _ _ (agrees cs);
+      after_all = balances _ _ (agrees cs);
       each = λ before c later e. treated _ _ c (agrees before) (list_backed y h before);
     }
 

@@ -39,6 +39,6 @@ pub record Treated (s : State) (k : Reckoning) (c : Call) (a : Answer) : Type 0 
 -- Demand 3, of a list of calls from a fresh register of year y: what holds after it, and how each of its calls was treated, with the
 -- register and the reckoning of the calls before it.
 pub record Demand3 (y : ℕ) (cs : List Call) : Type 0 where
-  pub after_all_lem : Balances (register_after y cs) (reckoned y cs)
+  pub after_all : Balances (register_after y cs) (reckoned y cs)
   pub each : (before : List Call) (c : Call) (later : List Call) → cs ≡ before ++ c ∷ later
       → Treated (register_after y before) (reckoned y before) c (answer (register_after y before) c)

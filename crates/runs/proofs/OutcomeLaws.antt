@@ -28,7 +28,7 @@ accounted input left e =
     let holds : Demand3 2000 (calls_in input) = demand_3 2000 refl (calls_in input) in
     record {
       listed = e;
-      balances = subst (λ (s : State). Balances s (reckoned 2000 (calls_in input))) (sym e) holds.after_all_lem;
+      balances = subst (λ (s : State). Balances s (reckoned 2000 (calls_in input))) (sym e) holds.after_all;
       answered = answers_listed (fresh_state 2000) (decoded_in input);
       demand3 = holds;
     }
