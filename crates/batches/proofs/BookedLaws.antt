@@ -94,7 +94,7 @@ record Kept (s : State) (b : Batch) (n : ℕ) (t : State) : Type 0 where
   year : t.register.year ≡ s.register.year
   points : t.register.points ≡ s.register.points
   guarantees : (u : ℕ) → (account_at t.register.accounts u).guarantee ≡ (account_at s.register.accounts u).guarantee
-  on_file_lem : (u : ℕ) → (account_at t.register.accounts u).on_file ≡ (account_at s.register.accounts u).on_file
+  on_file : (u : ℕ) → (account_at t.register.accounts u).on_file ≡ (account_at s.register.accounts u).on_file
   other_user : (u : ℕ) → NotServed s b n u → account_at t.register.accounts u ≡ account_at s.register.accounts u
   lines : t.register.lines ≡ s.register.lines + sum_below n (line_used s b)
   earlier_line : (i : ℕ) → i < s.register.lines → line_at t.ledger i ≡ line_at s.ledger i
@@ -114,7 +114,7 @@ module _ (s : State) (b : Batch) (n : ℕ) (t : State) (k : Kept s b n t) where
         year = k.year;
         points = k.points;
         guarantees = k.guarantees;
-        on_file_lem = k.on_file_lem;
+        on_file = k.on_file;
         other_user = λ u out. k.other_user u (λ i l. out i (omega (arith, l)));
         lines = omega (arith, k.lines, none);
         earlier_line = k.earlier_line;
@@ -131,7 +131,7 @@ module _ (s : State) (b : Batch) (n : ℕ) (t : State) (k : Kept s b n t) where
         year = k.year;
         points = k.points;
         guarantees = λ u. field_kept (λ a. a.guarantee) us (user_of b n) raised refl u ∙ k.guarantees u;
-        on_file_lem = λ u. field_kept (λ a. a.on_file) us (user_of b n) raised refl u ∙ k.on_file_lem u;
+        on_file = λ u. field_kept (λ a. a.on_file) us (user_of b n) raised refl u ∙ k.on_file u;
         other_user = λ u out.
             account_other us (user_of b n) raised u (λ same. out n (omega arith) p (sym same))
             ∙ k.other_user u (λ i l. out i (omega (arith, l)));
@@ -148,7 +148,7 @@ module _ (s : State) (b : Batch) where
         year = refl;
         points = refl;
         guarantees = λ u. refl;
-        on_file_lem = λ u. refl;
+        on_file = λ u. refl;
         other_user = λ u out. refl;
         lines = omega arith;
         earlier_line = λ i l. refl;
@@ -277,7 +277,7 @@ module _ (s : State) (b : Batch) (m n : ℕ) (sound : Sound s) (z : batch_number
         let h = share_passes s b i p in
         record {
           room = given_room s b m n z i t k l p;
-          filed = k.on_file_lem (user_of b i) ∙ (line_facts s.register b i h).filed;
+          filed = k.on_file (user_of b i) ∙ (line_facts s.register b i h).filed;
           open_point_lem = rw k.points (known s b m n z).open_point_lem;
           month = refl;
           last = given_last s b i t k i;
@@ -371,7 +371,7 @@ pub record BatchedIn (s : State) (b : Batch) (t : State) : Type 0 where
   -- unchanged
   pub commitment : (i : ℕ) → i < lines_of b → line_number s.register b i ≡ 0 → Charged s b i t
   pub guarantees : (u : ℕ) → (account_at t.register.accounts u).guarantee ≡ (account_at s.register.accounts u).guarantee
-  pub on_file_lem : (u : ℕ) → (account_at t.register.accounts u).on_file ≡ (account_at s.register.accounts u).on_file
+  pub on_file : (u : ℕ) → (account_at t.register.accounts u).on_file ≡ (account_at s.register.accounts u).on_file
   pub other_user : (u : ℕ) → NotServed s b (lines_of b) u → account_at t.register.accounts u ≡ account_at s.register.accounts u
   -- "The grant is taken from each of those days": the shares from each day of the year at the point, where "the rest stays free", and
   -- every other number of the table is unchanged
@@ -401,7 +401,7 @@ batch_booked s b m n sound z =
       points = k.points;
       commitment = w.commitment;
       guarantees = k.guarantees;
-      on_file_lem = k.on_file_lem;
+      on_file = k.on_file;
       other_user = k.other_user;
       day = w.day;
       other_point = w.other_point;

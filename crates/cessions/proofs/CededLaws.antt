@@ -52,7 +52,7 @@ pub record CededIn (s : State) (c : Cession) (t : State) : Type 0 where
   pub together : (giver_of t.register c).commitment + (receiver_of t.register c).commitment
       ≡ (giver_of s.register c).commitment + (receiver_of s.register c).commitment
   pub guarantees : (i : ℕ) → (account_at t.register.accounts i).guarantee ≡ (account_at s.register.accounts i).guarantee
-  pub on_file_lem : (i : ℕ) → (account_at t.register.accounts i).on_file ≡ (account_at s.register.accounts i).on_file
+  pub on_file : (i : ℕ) → (account_at t.register.accounts i).on_file ≡ (account_at s.register.accounts i).on_file
   pub other_user : (i : ℕ) → (i ≡ c.giver → ⊥) → (i ≡ c.receiver → ⊥) → account_at t.register.accounts i ≡ account_at s.register.accounts i
   -- "two annual lines, minus then plus", which end with the year, and every other line is unchanged
   pub lines : t.register.lines ≡ s.register.lines + 2
@@ -290,7 +290,7 @@ module _ (s : State) (c : Cession) (sound : Sound s) (w : CessionFacts s c) wher
         receiver = receiver_more;
         together = omega (arith, giver_less, receiver_more);
         guarantees = guarantee_still;
-        on_file_lem = filed_still;
+        on_file = filed_still;
         other_user = other_account;
         lines = refl;
         minus = minus_now;

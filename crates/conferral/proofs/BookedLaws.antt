@@ -49,7 +49,7 @@ pub record BookedIn (s : State) (g : Grant) (t : State) : Type 0 where
   pub commitment : (account_at t.register.accounts g.user).commitment
       ≡ (account_at s.register.accounts g.user).commitment + charge_of s.register g
   pub guarantees : (i : ℕ) → (account_at t.register.accounts i).guarantee ≡ (account_at s.register.accounts i).guarantee
-  pub on_file_lem : (i : ℕ) → (account_at t.register.accounts i).on_file ≡ (account_at s.register.accounts i).on_file
+  pub on_file : (i : ℕ) → (account_at t.register.accounts i).on_file ≡ (account_at s.register.accounts i).on_file
   pub other_user : (i : ℕ) → (i ≡ g.user → ⊥) → account_at t.register.accounts i ≡ account_at s.register.accounts i
   -- "The grant is taken from each of those days", and every other number of the table is unchanged
   pub day : (d : ℕ) → g.first ≤ d → d ≤ g.last → free_on t g.point d + g.amount ≡ free_on s g.point d
@@ -217,7 +217,7 @@ module _ (s : State) (g : Grant) (sound : Sound s) (b : Bookable s g) where
         points = refl;
         commitment = ap (λ (a : Account). a.commitment) account_now;
         guarantees = guarantee_still;
-        on_file_lem = filed_still;
+        on_file = filed_still;
         other_user = other_account;
         day = lowered;
         other_day = other;

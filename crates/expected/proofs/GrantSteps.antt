@@ -104,7 +104,7 @@ module _ (s : State) (k : Reckoning) (g : Grant) (t : State) (a : Agree s k) (b 
         kind = λ p. ap (λ (ps : List Point). (point_at ps p).kind) b.points ∙ a.kind p;
         total = λ p. ap (λ (ps : List Point). (point_at ps p).total) b.points ∙ a.total p;
         rate = λ p. ap (λ (ps : List Point). (point_at ps p).rate) b.points ∙ a.rate p;
-        filed = λ u. ap (λ (n : ℕ). eqb n 1) (b.on_file_lem u) ∙ a.filed u;
+        filed = λ u. ap (λ (n : ℕ). eqb n 1) (b.on_file u) ∙ a.filed u;
         guarantee = λ u. b.guarantees u ∙ a.guarantee u;
         balance = λ u. omega (arith, balance_now u);
         lines = omega (arith, b.lines, a.lines);
