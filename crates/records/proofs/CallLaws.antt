@@ -67,3 +67,9 @@ module _ (s : List ℕ) where
   pub kind_none : (kind_of s ≡ 1 → ⊥) → (kind_of s ≡ 2 → ⊥) → (kind_of s ≡ 3 → ⊥) → NoCall ≡ request_in s
   unfolding request_in
   kind_none a m d = rw (ne_eqb (kind_of s) 1 a, ne_eqb (kind_of s) 2 m, ne_eqb (kind_of s) 3 d)
+
+-- a law for each kind of a request
+pub ruleset kinds = (kind_annual, kind_month, kind_day, kind_none)
+
+-- a law for each letter of a call
+pub ruleset letters = (by_P, by_G, by_R, by_C, by_Y, by_none)

@@ -98,6 +98,7 @@ fn request_for(s: &[u8], product: Product) -> Decoded
     }))
 }
 
+#[tactic(auto, using(crate::proofs::CallLaws::kinds))]
 fn request_in(s: &[u8]) -> Decoded
     requires { 24 ≤ length s.now }
     ensures { result ≡ request_in s.now }
@@ -134,6 +135,7 @@ fn turn_in(s: &[u8]) -> Decoded
     Decoded::IsCall(Change::TurnYear(year))
 }
 
+#[tactic(auto, using(crate::proofs::CallLaws::letters))]
 fn call_in(s: &[u8]) -> Decoded
     requires { 24 ≤ length s.now }
     ensures { result ≡ call_in s.now }

@@ -44,6 +44,7 @@ fn grant_from(q: Request, first: u16, last: u16, amount: u32) -> Grant
 }
 
 // Questions 11, 12 and 13 of the days from first to last.
+#[tactic(auto, using(crate::proofs::AmountTests::amount_tests))]
 fn decide_amount(r: Register, free: &[u32], q: Request, first: u16, last: u16) -> Decision
     requires { (request_fields q ≡ true) × Spanned r q first last }
     ensures { Decides (amount_questions r free.now q) r free.now q result }

@@ -117,6 +117,9 @@ counts number a h = rw (eq-eqb number 0 h)
 pub counts_not : (number a : ℕ) → (number ≡ 0 → ⊥) → counted number a ≡ 0
 counts_not number a h = rw (ne_eqb number 0 h)
 
+-- a law for each exit of `counted_amount`
+pub ruleset counted_here = (counts, counts_not)
+
 pub counted_le : (number a m : ℕ) → (number ≡ 0 → a ≤ m) → counted number a ≤ m
 counted_le number a m h = go (eqb number 0) refl
   where

@@ -9,6 +9,7 @@ ghost use Rattle.shares.specs.Steps.{counted_in, share_in, number_in, Passing};
 use register::Refusal;
 
 // What counts of a line's asked amount in the sum, by the number that the questions gave the line.
+#[tactic(auto, using(crate::proofs::LoopLaws::counted_here))]
 fn counted_amount(number: u8, asked: u64) -> u64
     ensures { result ≡ counted number asked }
 {

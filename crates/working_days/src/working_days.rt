@@ -142,6 +142,7 @@ pub fn working_days_of(year: u16, month: u8) -> DayCount
 
 // The n-th working day of a month that has so many, by its day of the month. No test for the month's end: each month of the
 // calendar has at least 18 working days, which is proved.
+#[tactic(auto, using(crate::proofs::WorkingDayLaws::sought_here))]
 fn nth_of_month(year: u16, month: u8, n: u8) -> u8
     requires { (1 ≤ n) × (n ≤ working_count year month) }
     ensures { result ≡ nth_of_month year month n }

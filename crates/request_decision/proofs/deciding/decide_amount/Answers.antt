@@ -2,7 +2,7 @@ use mathlib.Core.Path.{◌≡◌, refl, sym, ap, ◌∙◌}
 use mathlib.Core.Bool.{Bool, true}
 use Prim.Native.Nat.{ℕ, ◌+◌}
 use lib.Dec.{ltb}
-use borrow.Author.Tests.{lt-ltb, le-ltb, le-leb, lt-leb}
+use borrow.Author.Tests.{lt-ltb, le-leb}
 use Rattle.parts.specs.Limits.{line_count}
 use Rattle.amounts.specs.Ranges.{least_of}
 use Rattle.amounts.specs.Amounts.{span_days}
@@ -23,38 +23,6 @@ pub overflow_sub-places : goal.overflow_sub-places
 overflow_sub-places c =
     let of-span : SpanFacts c.args.r.year c.args.q.arrival c.args.first c.args.last = span_in c.args.r c.args.q c.args.first c.args.last c.requires.1 in
     omega (arith, of-span.fit.ordered)
-
-pub returns-then-not-is_covered : goal.returns-then-not-is_covered
-returns-then-not-is_covered c =
-    let of_fields : FieldFacts c.args.q = fields c.args.q c.requires.0 in
-    let asks-cover-here : Bool = covers (account_of c.args.r c.args.q) (charge_asked c.args.r c.args.q) in
-    let answers-cover : c.is_covered.result ≡ asks-cover-here = c.is_covered.ensures ∙ asks_cover c.args.r c.args.q c.grant_from-asked.result of_fields c.requires.1.fits (grant_is c.args.r c.args.q c.args.first c.args.last _ c.args.q.amount c.grant_from-asked.result c.requires.1 c.grant_from-asked.ensures refl) in
-    rw (sym answers-cover ∙ c.if-not-is_covered.true)
-
-pub returns-then-amount-eq0 : goal.returns-then-amount-eq0
-returns-then-amount-eq0 c =
-    let amount : ℕ = amount_granted c.args.r c.args.free.now c.args.q in
-    let granted : c.least_free-amount.result ≡ amount = c.least_free-amount.ensures ∙ ap (λ (g : Grant). least_of c.args.free.now c.entry_in-place.result (span_days c.args.first c.args.last) g.amount) c.grant_from-asked.ensures ∙ granted_is c.args.r c.args.free.now c.args.q c.args.first c.args.last _ c.requires.1 c.entry_in-place.ensures in
-    let asks-cover-here : Bool = covers (account_of c.args.r c.args.q) (charge_asked c.args.r c.args.q) in
-    let of_fields : FieldFacts c.args.q = fields c.args.q c.requires.0 in
-    let answers-cover : c.is_covered.result ≡ asks-cover-here = c.is_covered.ensures ∙ asks_cover c.args.r c.args.q c.grant_from-asked.result of_fields c.requires.1.fits (grant_is c.args.r c.args.q c.args.first c.args.last _ c.args.q.amount c.grant_from-asked.result c.requires.1 c.grant_from-asked.ensures refl) in
-    let covered : asks-cover-here ≡ true = sym answers-cover ∙ c.if-not-is_covered.false in
-    let asks-free : Bool = free_throughout c.args.r c.args.free.now c.args.q in
-    let answers-free : ltb 0 amount ≡ asks-free = granted_free c.args.r c.args.free.now c.args.q of_fields.amount.from in
-    rw (covered, sym answers-free ∙ le-ltb 0 amount (omega (arith, granted)))
-
-pub returns-then-r-ge-LINES : goal.returns-then-r-ge-LINES
-returns-then-r-ge-LINES c =
-    let asks-cover-here : Bool = covers (account_of c.args.r c.args.q) (charge_asked c.args.r c.args.q) in
-    let of_fields : FieldFacts c.args.q = fields c.args.q c.requires.0 in
-    let answers-cover : c.is_covered.result ≡ asks-cover-here = c.is_covered.ensures ∙ asks_cover c.args.r c.args.q c.grant_from-asked.result of_fields c.requires.1.fits (grant_is c.args.r c.args.q c.args.first c.args.last _ c.args.q.amount c.grant_from-asked.result c.requires.1 c.grant_from-asked.ensures refl) in
-    let covered : asks-cover-here ≡ true = sym answers-cover ∙ c.if-not-is_covered.false in
-    let amount : ℕ = amount_granted c.args.r c.args.free.now c.args.q in
-    let granted : c.least_free-amount.result ≡ amount = c.least_free-amount.ensures ∙ ap (λ (g : Grant). least_of c.args.free.now c.entry_in-place.result (span_days c.args.first c.args.last) g.amount) c.grant_from-asked.ensures ∙ granted_is c.args.r c.args.free.now c.args.q c.args.first c.args.last _ c.requires.1 c.entry_in-place.ensures in
-    let asks-free : Bool = free_throughout c.args.r c.args.free.now c.args.q in
-    let answers-free : ltb 0 amount ≡ asks-free = granted_free c.args.r c.args.free.now c.args.q of_fields.amount.from in
-    let free : asks-free ≡ true = sym answers-free ∙ lt-ltb 0 amount (omega (arith, granted)) in
-    rw (covered, free, lt-leb (c.args.r.lines + 1) line_count (omega arith))
 
 pub returns : goal.returns
 returns c =

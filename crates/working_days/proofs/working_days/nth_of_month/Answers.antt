@@ -1,12 +1,12 @@
-use Prim.Native.Nat.{◌+◌, ◌-◌, ◌≤◌}
-use mathlib.Core.Path.{◌≡◌, sym, ◌∙◌}
+use Prim.Native.Nat.{ℕ, ◌+◌, ◌-◌, ◌≤◌}
+use mathlib.Core.Path.{◌≡◌, refl, sym}
 use native.Mathlib.Omega.{arith}
 use Rattle.days.specs.Days.{month_length}
-use Rattle.working_days.specs.WorkingDays.{working_days, nth_of_month}
+use Rattle.working_days.specs.WorkingDays.{working_days, nth_of_month, working}
 use Rattle.days.proofs.DateLaws.{month_most}
-use Rattle.working_days.proofs.WorkingDayLaws.{sought_left, sought_here, sought_pass, sought_next}
+use mathlib.Core.Bool.{Bool, true, false}
+use Rattle.working_days.proofs.WorkingDayLaws.{Sought, sought_left, sought_pass, sought_next}
 use Rattle.working_days.proofs.working_days.nth_of_month.Goals as goal
-use Rattle.working_days.proofs.working_days.nth_of_month.Goals.{then-is_working+else-left-eq1, else-is_working}
 
 pub loop-year-init : goal.loop-year-init
 unfolding nth_of_month working_days
@@ -33,10 +33,6 @@ is_working-requires c =
     let small : c.loop-year.day ≤ 31 = omega (arith, sought_left _ _ _ _ _ _ c.loop-year.invariant.1, month_most c.args.year c.args.month) in
     (rw c.month_start-first.ensures.value, omega (arith, small), c.easter_monday-monday.ensures)
 
-pub returns-then-left-eq1 : goal.returns-then-left-eq1
-returns-then-left-eq1 c =
-    sought_here _ _ _ _ _ _ c.loop-year.invariant.1 (sym c.is_working.ensures ∙ c.if-is_working.true) c.if-left-eq1.true
-
 pub overflow_add-day : goal.overflow_add-day
 overflow_add-day c =
     let small : c.loop-year.day ≤ 31 = omega (arith, sought_left _ _ _ _ _ _ c.loop-year.invariant.1, month_most c.args.year c.args.month) in
@@ -45,11 +41,10 @@ overflow_add-day c =
 pub loop-year-smaller : goal.loop-year-smaller
 loop-year-smaller c = omega (arith, sought_left _ _ _ _ _ _ c.loop-year.invariant.1)
 
+-- an iteration, by what it did with `left` on a working day and on another
+step : (y m e r d k k' : ℕ) (b : Bool) → Sought y m e r d k → b ≡ working y m d → (b ≡ true → (k ≡ 1 → ⊥) × (k' ≡ k - 1)) → (b ≡ false → k' ≡ k) → Sought y m e r (d + 1) k'
+step y m e r d k k' true s w t f = rw (t refl).1 (sought_next y m e r d k s (sym w) (t refl).0)
+step y m e r d k k' false s w t f = rw (f refl) (sought_pass y m e r d k s (sym w))
+
 pub loop-year-preserved : goal.loop-year-preserved
-loop-year-preserved c = (
-  omega arith,
-  elim c.if-is_working.branch [
-    | then-is_working+else-left-eq1 w ↦ rw w.left-is (sought_next _ _ _ _ _ _ c.loop-year.invariant.1 (sym c.is_working.ensures ∙ w.if-is_working.true) w.if-left-eq1.false)
-    | else-is_working w ↦ rw w.left-is (sought_pass _ _ _ _ _ _ c.loop-year.invariant.1 (sym c.is_working.ensures ∙ w.if-is_working.false))
-  ],
-)
+loop-year-preserved c = (omega arith, step _ _ _ _ _ _ _ _ c.loop-year.invariant.1 c.is_working.ensures (grind arith) (grind arith))
