@@ -8,7 +8,7 @@ ghost use Rattle.placing.specs.PlaceGuarantee.{place_number, pledged, place_afte
 use register::{Filed, Refusal, Register, Verdict};
 
 // Questions 1, 2 and 6.
-#[tactic(auto, unfolding(crate::specs::PlaceGuarantee::place_number))]
+#[tactic(auto, using(crate::proofs::PlaceLaws::place_exits))]
 fn place_answer(r: Register, free: &[u32], ledger: &[u32], user: u8, guarantee: u64) -> Verdict
     ensures { number_of_verdict result ≡ place_number (state r free.now ledger.now) user guarantee }
 {
