@@ -25,7 +25,7 @@ use Rattle.cession_decision.specs.declared.deciding.Cession.{Cession}
 use Rattle.cession_decision.specs.CessionQuestions.{giver_of, span_first, span_last, is_in_year, given_of, is_held, charge_of}
 use Rattle.cessions.proofs.MovedLaws.{holds}
 use Rattle.expected.proofs.Agreement.{at_each}
-use Rattle.expected.proofs.BackingSums.{charge_held, held_none, held_least}
+use Rattle.reckoning.proofs.BackingSums.{charge_held, held_none, held_least}
 
 -- what user u holds at point p on gas-day d, as a number
 abbrev pub holding : State → ℕ → ℕ → ℕ → ℕ

@@ -48,7 +48,7 @@ use Rattle.cessions.proofs.CededLaws.{CededIn, cession_ceded}
 use Rattle.cessions.proofs.MovedLaws.{holds, held_other, giver_holds, receiver_holds}
 use Rattle.expected.proofs.Agreement.{at_each}
 use Rattle.expected.proofs.GrantSteps.{chosen, left_out}
-use Rattle.expected.proofs.BackingSums.{held_same, held_rates, held_more}
+use Rattle.reckoning.proofs.BackingSums.{held_same, held_rates, held_more}
 use Rattle.expected.proofs.Backing.{holding, rate_of, charge_in_year, Backed, as_number, in_days, backed_empty, giver_has}
 
 -- ---- lines of other points

@@ -1,7 +1,6 @@
 pub mod SmallestLaws
 pub mod AlikeLaws
 pub mod Agreement
-pub mod BackingSums
 pub mod Backing
 pub mod Invariant
 pub mod Answered
