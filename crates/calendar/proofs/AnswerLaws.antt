@@ -5,8 +5,8 @@ use mathlib.Core.Bool.{Bool, true, false, cond, ◌&&◌}
 use mathlib.Core.Path.{◌≡◌, refl}
 use lib.Dec.{leb}
 use borrow.Author.Tests.{le-leb, lt-leb}
-use Rattle.days.specs.declared.dates.GasDay.TheVariants.{Day, OutsideCalendar as NoDay}
-use Rattle.calendar.specs.declared.deadlines.Timeliness.TheVariants.{InTime, Late, OutsideCalendar as NoDeadline}
+use Rattle.std.specs.Prelude.{Option, Some, None}
+use Rattle.calendar.specs.declared.deadlines.Timeliness.TheVariants.{InTime, Late}
 use Rattle.days.specs.Days.{last_day, between, is_month, date_of, year_before, month_before}
 use Rattle.calendar.specs.ThermalYears.{is_thermal_month, calendar_year, calendar_month}
 use Rattle.calendar.specs.Deadlines.{own_deadline, preceding_deadline}
@@ -14,28 +14,43 @@ use Rattle.working_days.specs.Answers.{nth_answer}
 use Rattle.calendar.specs.Answers.{preceding_day, timely, own_answer, preceding_answer}
 use Rattle.days.proofs.Ranges.{month_of_test, is_month_lem}
 use Rattle.calendar.proofs.DeadlineLaws.{own_month, preceding_month}
+use Rattle.calendar.proofs.SpanLaws.{chosen, unchosen}
 
--- an arrival is compared with a deadline that a test lets stand
-timely_if : (b : Bool) (a d : ℕ) → timely a (cond b (Day d) NoDay) ≡ cond b (cond (leb a d) InTime Late) NoDeadline
-timely_if true a d = refl
-timely_if false a d = refl
+-- a deadline that a test lets stand, and an arrival compared with it
+module _ {A B : Type 0} (f : A → B) (b : Bool) (d : A) where
+  pub some_if : (x : A) → cond b (Some d) None ≡ Some x → Some (f x) ≡ cond b (Some (f d)) None
+  some_if x h = let r = chosen b d x h in rw (r.0, r.1)
 
-pub own_answer_lem : (a n : ℕ) → a ≤ last_day → timely a (nth_answer (date_of a).year (date_of a).month n) ≡ own_answer a n
+  pub none_if : cond b (Some d) None ≡ None → None ≡ cond b (Some (f d)) None
+  none_if h = rw (unchosen b d h)
+
+pub own_answer_lem : (a n d : ℕ) → a ≤ last_day → nth_answer (date_of a).year (date_of a).month n ≡ Some d → Some (timely a d) ≡ own_answer a n
 unfolding nth_answer own_answer own_deadline
-own_answer_lem a n h =
-    rw (is_month_lem (date_of a).year (date_of a).month (own_month a h), le-leb a last_day h)
-    (timely_if (between 1 18 n) a (own_deadline a n))
+own_answer_lem a n d h e =
+    rw (le-leb a last_day h)
+    (some_if (timely a) (between 1 18 n) (own_deadline a n) d (rw (is_month_lem (date_of a).year (date_of a).month (own_month a h)) at e))
 
-pub own_outside : (a n : ℕ) → last_day < a → NoDeadline ≡ own_answer a n
+pub own_none : (a n : ℕ) → a ≤ last_day → nth_answer (date_of a).year (date_of a).month n ≡ None → None ≡ own_answer a n
+unfolding nth_answer own_answer own_deadline
+own_none a n h e =
+    rw (le-leb a last_day h)
+    (none_if (timely a) (between 1 18 n) (own_deadline a n) (rw (is_month_lem (date_of a).year (date_of a).month (own_month a h)) at e))
+
+pub own_outside : (a n : ℕ) → last_day < a → None ≡ own_answer a n
 unfolding own_answer
 own_outside a n h = rw (lt-leb a last_day h)
 
-pub preceding_answer_lem : (a y k n : ℕ) → a ≤ last_day → timely a (preceding_day y k n) ≡ preceding_answer a y k n
+pub preceding_answer_lem : (a y k n d : ℕ) → a ≤ last_day → preceding_day y k n ≡ Some d → Some (timely a d) ≡ preceding_answer a y k n
 unfolding preceding_day preceding_answer
-preceding_answer_lem a y k n h =
-    rw (le-leb a last_day h) (timely_if (is_thermal_month y k && between 1 18 n) a (preceding_deadline y k n))
+preceding_answer_lem a y k n d h e =
+    rw (le-leb a last_day h) (some_if (timely a) (is_thermal_month y k && between 1 18 n) (preceding_deadline y k n) d e)
 
-pub preceding_outside : (a y k n : ℕ) → last_day < a → NoDeadline ≡ preceding_answer a y k n
+pub preceding_none : (a y k n : ℕ) → a ≤ last_day → preceding_day y k n ≡ None → None ≡ preceding_answer a y k n
+unfolding preceding_day preceding_answer
+preceding_none a y k n h e =
+    rw (le-leb a last_day h) (none_if (timely a) (is_thermal_month y k && between 1 18 n) (preceding_deadline y k n) e)
+
+pub preceding_outside : (a y k n : ℕ) → last_day < a → None ≡ preceding_answer a y k n
 unfolding preceding_answer
 preceding_outside a y k n h = rw (lt-leb a last_day h)
 

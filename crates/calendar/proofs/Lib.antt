@@ -1,5 +1,5 @@
 pub mod ThermalYearLaws
 pub mod DeadlineLaws
-pub mod AnswerLaws
 pub mod SpanLaws
+pub mod AnswerLaws
 pub mod Cases

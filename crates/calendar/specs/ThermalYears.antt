@@ -2,6 +2,11 @@
 -- Assumes nothing.
 use Rattle.std.specs.Prelude.{ℕ, ◌+◌, ◌-◌, ◌≡◌, Bool, true, cond, ◌&&◌, leb}
 use Rattle.days.specs.Days.{between, month_length, month_start, day_number}
+use Rattle.calendar.specs.declared.thermal_years.Span.{Span}
+
+-- the span of the days from the first to the last
+abbrev pub span : ℕ → ℕ → Span
+span first last = record { first = first; last = last }
 
 -- "Thermal year Y (2000 to 2098)"
 abbrev pub is_thermal_year : ℕ → Bool

@@ -3,29 +3,28 @@ ghost use Rattle.std.specs.Prelude.{◌≡◌};
 ghost use Rattle.calendar.specs.Answers.{day_in, next_first_answer, preceding_day, timely, own_answer, preceding_answer};
 
 use crate::thermal_years::is_thermal_month;
-use days::{GasDay, LAST_DAY, date_at, month_start};
+use days::{LAST_DAY, date_at, month_start};
 use working_days::nth_working_day;
 
 // Whether an arrival is in time.
-#[derive(Clone, Copy)]
+#[derive(Clone, Copy, PartialEq, Eq)]
 pub enum Timeliness {
     InTime,
     Late,
-    OutsideCalendar,
 }
 
 // The gas-day with a number, where the calendar has it.
-fn in_calendar(number: u32) -> GasDay
+fn in_calendar(number: u32) -> Option<u16>
     ensures { result ≡ day_in number }
 {
     if number <= LAST_DAY as u32 {
-        return GasDay::Day(number as u16);
+        return Some(number as u16);
     }
-    GasDay::OutsideCalendar
+    None
 }
 
 // The first of the month after a gas-day.
-pub fn next_first(day: u16) -> GasDay
+pub fn next_first(day: u16) -> Option<u16>
     ensures { result ≡ next_first_answer day }
 {
     let d = date_at(day);
@@ -36,38 +35,34 @@ pub fn next_first(day: u16) -> GasDay
 }
 
 // Whether an arrival is in time for a deadline: the day itself is in time.
-fn in_time_by(arrival: u16, deadline: GasDay) -> Timeliness
+fn in_time_by(arrival: u16, deadline: u16) -> Timeliness
     ensures { result ≡ timely arrival deadline }
 {
-    match deadline {
-        GasDay::Day(day) => {
-            if arrival <= day {
-                Timeliness::InTime
-            } else {
-                Timeliness::Late
-            }
-        }
-        GasDay::OutsideCalendar => Timeliness::OutsideCalendar,
+    if arrival <= deadline {
+        Timeliness::InTime
+    } else {
+        Timeliness::Late
     }
 }
 
 // Whether an arrival is in time by the n-th working day of its own month, for n from 1 to 18.
-pub fn in_time_own_month(arrival: u16, n: u8) -> Timeliness
+pub fn in_time_own_month(arrival: u16, n: u8) -> Option<Timeliness>
     ensures { result ≡ own_answer arrival n }
 {
     if LAST_DAY < arrival {
-        return Timeliness::OutsideCalendar;
+        return None;
     }
     let d = date_at(arrival);
-    in_time_by(arrival, nth_working_day(d.year, d.month, n))
+    let deadline = nth_working_day(d.year, d.month, n)?;
+    Some(in_time_by(arrival, deadline))
 }
 
 // The n-th working day of the month before a month of a thermal year: before month 1, October, comes September.
-fn preceding_deadline(year: u16, month: u8, n: u8) -> GasDay
+fn preceding_deadline(year: u16, month: u8, n: u8) -> Option<u16>
     ensures { result ≡ preceding_day year month n }
 {
     if !is_thermal_month(year, month) {
-        return GasDay::OutsideCalendar;
+        return None;
     }
     if month <= 4 {
         return nth_working_day(year, month + 8, n);
@@ -76,11 +71,12 @@ fn preceding_deadline(year: u16, month: u8, n: u8) -> GasDay
 }
 
 // Whether an arrival is in time by the n-th working day, for n from 1 to 18, of the month before a month of a thermal year.
-pub fn in_time_preceding_month(arrival: u16, year: u16, month: u8, n: u8) -> Timeliness
+pub fn in_time_preceding_month(arrival: u16, year: u16, month: u8, n: u8) -> Option<Timeliness>
     ensures { result ≡ preceding_answer arrival year month n }
 {
     if LAST_DAY < arrival {
-        return Timeliness::OutsideCalendar;
+        return None;
     }
-    in_time_by(arrival, preceding_deadline(year, month, n))
+    let deadline = preceding_deadline(year, month, n)?;
+    Some(in_time_by(arrival, deadline))
 }

@@ -1,14 +1,13 @@
 // The calendar of the register: thermal years and the deadlines that are working days. The types and functions of gas-days and of
 // working days are passed on, so that a caller names one crate.
 //
-// No function that another crate can name has a `requires`. Input outside the calendar is answered with the case
-// `OutsideCalendar`. The meaning of each answer is in specs/, and proofs/ has the laws that callers cite.
+// No function that another crate can name has a `requires`. Input outside the calendar is answered with `None`. The meaning of each answer is in specs/, and proofs/ has the laws that callers cite.
 #![tactic(auto)]
 
 mod deadlines;
 mod thermal_years;
 
-pub use days::{CalendarDate, Date, GasDay, date_of, day_of, next_date};
+pub use days::{Date, date_of, day_of, next_date};
 pub use deadlines::{Timeliness, in_time_own_month, in_time_preceding_month, next_first};
 pub use thermal_years::{Span, in_thermal_year, is_thermal_year, thermal_month, thermal_year};
-pub use working_days::{DayCount, DayType, day_type, easter, nth_working_day, working_days_of};
+pub use working_days::{DayType, day_type, easter, nth_working_day, working_days_of};

@@ -2,8 +2,8 @@
 -- Assumes nothing.
 use mathlib.Core.Bool.{Bool, true, false, cond}
 use mathlib.Core.Path.{◌≡◌, refl}
+use Rattle.std.specs.Prelude.{Some, None}
 use Rattle.days.specs.declared.dates.Date.{Date}
-use Rattle.days.specs.declared.dates.CalendarDate.TheVariants.{On, OutsideCalendar as NoDate}
 use Rattle.days.specs.Days.{day_after, moves_on}
 use Rattle.days.specs.Answers.{next_date_answer, move_number, moved_date}
 
@@ -13,6 +13,6 @@ pub moved : (d : Date) → (move_number (next_date_answer d) ≡ cond (moves_on 
 unfolding next_date_answer
 moved d = go (moves_on d)
   where
-    go : (b : Bool) → (move_number (cond b (On (day_after d)) NoDate) ≡ cond b 0 2) × (moved_date d (cond b (On (day_after d)) NoDate) ≡ cond b (day_after d) d)
+    go : (b : Bool) → (move_number (cond b (Some (day_after d)) None) ≡ cond b 0 2) × (moved_date d (cond b (Some (day_after d)) None) ≡ cond b (day_after d) d)
     go true = (refl, refl)
     go false = (refl, refl)

@@ -1,2 +1,3 @@
 pub mod Days
 pub mod Answers
+pub mod Texts

@@ -3,30 +3,30 @@ ghost use Rattle.std.specs.Prelude.{◌≡◌, ◌<◌, ◌^◌};
 ghost use Rattle.days.specs.Days.{leap, month_length, year_start, days_before, month_start, day_number, date_of, is_year, is_month, is_date, moves_on};
 ghost use Rattle.days.specs.Answers.{date_answer, day_answer, next_date_answer};
 
+use std::fmt;
+
 // The last gas-day of the calendar, 31 December 2099.
 pub const LAST_DAY: u16 = 36524;
 
 // A date: the year, the month of the calendar and the day of the month. It need not exist.
 #[repr(C)]
-#[derive(Clone, Copy)]
+#[derive(Clone, Copy, PartialEq, Eq)]
 pub struct Date {
     pub year: u16,
     pub month: u8,
     pub day: u8,
 }
 
-// A gas-day by its number.
-#[derive(Clone, Copy)]
-pub enum GasDay {
-    Day(u16),
-    OutsideCalendar,
-}
+// As 2024-03-31.
+impl fmt::Display for Date {
+    ghost use Rattle.std.specs.Prelude.{Some};
+    ghost use Rattle.days.specs.Texts.{date_text};
 
-// A date that exists.
-#[derive(Clone, Copy)]
-pub enum CalendarDate {
-    On(Date),
-    OutsideCalendar,
+    ghost output = { λ d. Some (date_text d) };
+
+    fn fmt<W: fmt::Write>(&self, f: &mut fmt::Formatter<W>) -> fmt::Result {
+        write!(f, "{}-{:02}-{:02}", self.year, self.month, self.day)
+    }
 }
 
 fn is_leap(year: u16) -> bool
@@ -73,11 +73,9 @@ fn days_before(year: u16, months: u8) -> u32
     ensures value { result ≡ days_before year months }
     ensures upper_bound { result < 2 ^ 16 }
 {
-    let mut k: u8 = 0;
     let mut sum: u32 = 0;
-    while k < months {
-        k += 1;
-        sum += month_length(year, k) as u32;
+    for k in 0..months {
+        sum += month_length(year, k + 1) as u32;
     }
     sum
 }
@@ -110,34 +108,32 @@ pub fn date_at(day: u16) -> Date
     let n = day as u32;
     let year = (2000 + 4 * n / 1461) as u16;
     let mut rest = n - year_start(year);
-    let mut month: u8 = 1;
-    while month < 12 {
+    for month in 1..12 {
         let len = month_length(year, month) as u32;
         if rest < len {
             return Date {
-                year: year,
-                month: month,
+                year,
+                month,
                 day: (rest + 1) as u8,
             };
         }
         rest -= len;
-        month += 1;
     }
     Date {
-        year: year,
-        month: month,
+        year,
+        month: 12,
         day: (rest + 1) as u8,
     }
 }
 
 // The date of a gas-day.
-pub fn date_of(day: u16) -> CalendarDate
+pub fn date_of(day: u16) -> Option<Date>
     ensures { result ≡ date_answer day }
 {
     if LAST_DAY < day {
-        return CalendarDate::OutsideCalendar;
+        return None;
     }
-    CalendarDate::On(date_at(day))
+    Some(date_at(day))
 }
 
 fn is_date(date: Date) -> bool
@@ -151,13 +147,13 @@ fn is_date(date: Date) -> bool
 }
 
 // The gas-day of a date.
-pub fn day_of(date: Date) -> GasDay
+pub fn day_of(date: Date) -> Option<u16>
     ensures { result ≡ day_answer date }
 {
     if is_date(date) {
-        return GasDay::Day(day_number(date.year, date.month, date.day) as u16);
+        return Some(day_number(date.year, date.month, date.day) as u16);
     }
-    GasDay::OutsideCalendar
+    None
 }
 
 // Whether a date exists in the calendar and is not its last.
@@ -171,30 +167,26 @@ fn moves_on(date: Date) -> bool
 }
 
 // The date one gas-day later.
-pub fn next_date(date: Date) -> CalendarDate
+pub fn next_date(date: Date) -> Option<Date>
     ensures { result ≡ next_date_answer date }
 {
     let y = date.year;
     let m = date.month;
     let d = date.day;
     if !moves_on(date) {
-        return CalendarDate::OutsideCalendar;
+        return None;
     }
     if d < month_length(y, m) {
-        return CalendarDate::On(Date {
-            year: y,
-            month: m,
-            day: d + 1,
-        });
+        return Some(Date { day: d + 1, ..date });
     }
     if m < 12 {
-        return CalendarDate::On(Date {
-            year: y,
+        return Some(Date {
             month: m + 1,
             day: 1,
+            ..date
         });
     }
-    CalendarDate::On(Date {
+    Some(Date {
         year: y + 1,
         month: 1,
         day: 1,

@@ -3,6 +3,7 @@
 use mathlib.Core.Path.{◌≡◌, refl, sym, ap, ◌∙◌}
 use mathlib.Core.Bool.{Bool, true, false, ◌&&◌, false≢true}
 use mathlib.Core.List.{List, [], ◌∷◌}
+use Rattle.std.specs.Prelude.{Result, Ok, Err}
 use Prim.Native.Nat.{ℕ, zero, suc, ◌<◌}
 use native.Mathlib.Omega.{arith}
 use lib.Dec.{ltb}
@@ -10,9 +11,7 @@ use borrow.Author.Tests.{ltb-true}
 use Rattle.days.proofs.Ranges.{and_left, and_right}
 use Rattle.parts.specs.declared.answers.Refusal.{Refusal}
 use Rattle.parts.specs.declared.answers.Refusal.TheVariants.{NotInOrder, OutOfLimits, PointClosed, PointOpen, NotOnFile, BelowCommitment, NotOffered, OutsideYear, Late, NotHeld, NotCovered, NothingFree, LedgerFull, UserRepeated, YearNotLater}
-use Rattle.parts.specs.declared.answers.Verdict.{Verdict}
-use Rattle.parts.specs.declared.answers.Verdict.TheVariants.{Accepted, Refused}
-use Rattle.parts.specs.Answers.{number_of_refusal, number_of_verdict, Question, ◌asks◌, number_of, Passes, leaves}
+use Rattle.parts.specs.Answers.{number_of_refusal, number_of_answer, Question, ◌asks◌, number_of, Passes, leaves}
 
 -- no question has the number 0
 abbrev pub numbered : List Question → Bool
@@ -49,14 +48,15 @@ refusal_number UserRepeated = omega arith
 refusal_number YearNotLater = omega arith
 
 -- n is the number of the answer v: 0 where v is accepted, and not 0 where it is refused
-pub zero_number : (v : Verdict) (n : ℕ) → number_of_verdict v ≡ n → v ≡ Accepted → n ≡ 0
-zero_number v n e h = sym e ∙ ap number_of_verdict h
+module _ {A : Type 0} (v : Result A Refusal) (n : ℕ) where
+  pub zero_number : (a : A) → number_of_answer v ≡ n → v ≡ Ok a → n ≡ 0
+  zero_number a e h = sym e ∙ ap number_of_answer h
 
-pub refused_number : (v : Verdict) (n : ℕ) (why : Refusal) → number_of_verdict v ≡ n → v ≡ Refused why → number_of_refusal why ≡ n
-refused_number v n why e h = sym (ap number_of_verdict h) ∙ e
+  pub refused_number : (why : Refusal) → number_of_answer v ≡ n → v ≡ Err why → number_of_refusal why ≡ n
+  refused_number why e h = sym (ap number_of_answer h) ∙ e
 
-pub some_number : (v : Verdict) (n : ℕ) (why : Refusal) → number_of_verdict v ≡ n → v ≡ Refused why → n ≡ 0 → ⊥
-some_number v n why e h z = let q : number_of_refusal why ≡ 0 = refused_number v n why e h ∙ z in omega (arith, q, refusal_number why)
+  pub some_number : (why : Refusal) → number_of_answer v ≡ n → v ≡ Err why → n ≡ 0 → ⊥
+  some_number why e h z = let q : number_of_refusal why ≡ 0 = refused_number why e h ∙ z in omega (arith, q, refusal_number why)
 
 -- what a call leaves
 pub leaves_new : {A : Type 0} (n : ℕ) (new old : A) → n ≡ 0 → leaves n new old ≡ new

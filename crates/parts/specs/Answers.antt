@@ -1,12 +1,8 @@
 -- Document 01, "Questions put to a call": the numbers, and how questions settle a call.
 -- Assumes nothing.
-use Rattle.std.specs.Prelude.{ℕ, zero, suc, Bool, true, cond, ◌≡◌, List, [], ◌∷◌}
+use Rattle.std.specs.Prelude.{ℕ, zero, suc, Bool, true, cond, ◌≡◌, List, [], ◌∷◌, Result, Ok, Err}
 use Rattle.parts.specs.declared.answers.Refusal.{Refusal}
 use Rattle.parts.specs.declared.answers.Refusal.TheVariants.{NotInOrder, OutOfLimits, PointClosed, PointOpen, NotOnFile, BelowCommitment, NotOffered, OutsideYear, Late, NotHeld, NotCovered, NothingFree, LedgerFull, UserRepeated, YearNotLater}
-use Rattle.parts.specs.declared.answers.Verdict.{Verdict}
-use Rattle.parts.specs.declared.answers.Verdict.TheVariants.{Accepted, Refused}
-use Rattle.parts.specs.declared.answers.Report.{Report}
-use Rattle.parts.specs.declared.answers.Report.TheVariants.{Free, Refused as NoReport}
 
 -- the number of each refusal, by the list of questions
 abbrev pub number_of_refusal : Refusal → ℕ
@@ -26,19 +22,15 @@ number_of_refusal LedgerFull = 13
 number_of_refusal UserRepeated = 14
 number_of_refusal YearNotLater = 15
 
--- "0 accepted"
-abbrev pub number_of_verdict : Verdict → ℕ
-number_of_verdict Accepted = 0
-number_of_verdict (Refused n) = number_of_refusal n
+-- "0 accepted": the number of an answer, be it with an amount or without
+abbrev pub number_of_answer : {A : Type 0} → Result A Refusal → ℕ
+number_of_answer (Ok a) = 0
+number_of_answer (Err why) = number_of_refusal why
 
--- the number and the figure of a report: where the answer is no, "reported figure 0"
-abbrev pub number_of_report : Report → ℕ
-number_of_report (Free a) = 0
-number_of_report (NoReport n) = number_of_refusal n
-
-abbrev pub amount_of_report : Report → ℕ
-amount_of_report (Free a) = a
-amount_of_report (NoReport n) = 0
+-- the amount granted, ceded or reported: where the answer is no, "grant or reported figure 0"
+abbrev pub amount_of_answer : Result ℕ Refusal → ℕ
+amount_of_answer (Ok a) = a
+amount_of_answer (Err why) = 0
 
 -- a question put to a call: its number, and whether the answer is yes
 pub data Question : Type 0 where

@@ -4,6 +4,7 @@ use Rattle.std.specs.Prelude.{ℕ, List, get_or, set, replicate}
 use Rattle.parts.specs.declared.points.Point.{Point}
 use Rattle.parts.specs.declared.accounts.Account.{Account}
 use Rattle.parts.specs.declared.registers.Register.{Register}
+use Rattle.parts.specs.declared.registers.View.{View}
 use Rattle.parts.specs.Limits.{point_count, user_count}
 
 -- the register with the two lists that are lent beside it: the free amounts and the ledger
@@ -14,6 +15,10 @@ pub record State : Type 0 where
 
 abbrev pub state : Register → List ℕ → List ℕ → State
 state r f l = record { register = r; free = f; ledger = l }
+
+-- the same of a register and two lists that are lent together, to be read
+abbrev pub state_in : View → State
+state_in v = state v.register.now v.free.now v.ledger.now
 
 -- a closed point, and the account of a user who is not on file
 abbrev pub closed_point : Point

@@ -1,11 +1,11 @@
 // What the calls answer.
 ghost use Rattle.std.specs.Prelude.{◌≡◌};
-ghost use Rattle.parts.specs.Answers.{number_of_refusal, number_of_verdict, number_of_report, amount_of_report};
+ghost use Rattle.parts.specs.Answers.{number_of_refusal, number_of_answer, amount_of_answer};
 
 use crate::registers::Register;
 
 // The questions of document 01, each named by what a "no" means.
-#[derive(Clone, Copy)]
+#[derive(Clone, Copy, PartialEq, Eq)]
 pub enum Refusal {
     NotInOrder,
     OutOfLimits,
@@ -24,75 +24,55 @@ pub enum Refusal {
     YearNotLater,
 }
 
-// The answer of a call without an amount.
-#[derive(Clone, Copy)]
-pub enum Verdict {
-    Accepted,
-    Refused(Refusal),
+impl From<Refusal> for u8 {
+    // The number of the question that was answered no.
+    ghost from_gives = { λ why number. number ≡ number_of_refusal why };
+
+    fn from(why: Refusal) -> u8 {
+        match why {
+            Refusal::NotInOrder => 1,
+            Refusal::OutOfLimits => 2,
+            Refusal::PointClosed => 3,
+            Refusal::PointOpen => 4,
+            Refusal::NotOnFile => 5,
+            Refusal::BelowCommitment => 6,
+            Refusal::NotOffered => 7,
+            Refusal::OutsideYear => 8,
+            Refusal::Late => 9,
+            Refusal::NotHeld => 10,
+            Refusal::NotCovered => 11,
+            Refusal::NothingFree => 12,
+            Refusal::LedgerFull => 13,
+            Refusal::UserRepeated => 14,
+            Refusal::YearNotLater => 15,
+        }
+    }
 }
 
-// What a fresh register, and a changing call without an amount, give back: the register as it then is, and the answer.
+// What a call that takes the register gives back: the register as it then is, and the answer, an amount or nothing more than that
+// the call is accepted.
 #[derive(Drop)]
-pub struct Filed {
+pub struct Answered<T> {
     pub register: Register,
-    pub answer: Verdict,
+    pub answer: Result<T, Refusal>,
 }
 
-// The answer of a report.
-#[derive(Clone, Copy)]
-pub enum Report {
-    Free(u32),
-    Refused(Refusal),
-}
-
-// The number of the question that was answered no.
-pub fn refusal_number(why: Refusal) -> u8
-    ensures { result ≡ number_of_refusal why }
+// 0 where a call is accepted, else the number of the question that was answered no.
+pub fn answer_number<T>(answer: &Result<T, Refusal>) -> u8
+    ensures { result ≡ number_of_answer answer.now }
 {
-    match why {
-        Refusal::NotInOrder => 1,
-        Refusal::OutOfLimits => 2,
-        Refusal::PointClosed => 3,
-        Refusal::PointOpen => 4,
-        Refusal::NotOnFile => 5,
-        Refusal::BelowCommitment => 6,
-        Refusal::NotOffered => 7,
-        Refusal::OutsideYear => 8,
-        Refusal::Late => 9,
-        Refusal::NotHeld => 10,
-        Refusal::NotCovered => 11,
-        Refusal::NothingFree => 12,
-        Refusal::LedgerFull => 13,
-        Refusal::UserRepeated => 14,
-        Refusal::YearNotLater => 15,
+    match answer {
+        Ok(_) => 0,
+        Err(why) => u8::from(*why),
     }
 }
 
-// 0 for an accepted call.
-pub fn verdict_number(answer: Verdict) -> u8
-    ensures { result ≡ number_of_verdict answer }
+// The amount granted, ceded or reported; of a refused call it is 0.
+pub fn answer_amount(answer: &Result<u32, Refusal>) -> u32
+    ensures { result ≡ amount_of_answer answer.now }
 {
     match answer {
-        Verdict::Accepted => 0,
-        Verdict::Refused(why) => refusal_number(why),
-    }
-}
-
-// The number and the free amount of a report; the amount of a refused one is 0.
-pub fn report_number(answer: Report) -> u8
-    ensures { result ≡ number_of_report answer }
-{
-    match answer {
-        Report::Free(_) => 0,
-        Report::Refused(why) => refusal_number(why),
-    }
-}
-
-pub fn report_amount(answer: Report) -> u32
-    ensures { result ≡ amount_of_report answer }
-{
-    match answer {
-        Report::Free(amount) => amount,
-        Report::Refused(_) => 0,
+        Ok(amount) => *amount,
+        Err(_) => 0,
     }
 }

@@ -12,14 +12,12 @@ mod limits;
 mod points;
 mod registers;
 
-pub use accounts::{Account, account_in_order, is_on_file};
-pub use answers::{
-    Filed, Refusal, Report, Verdict, refusal_number, report_amount, report_number, verdict_number,
-};
+pub use accounts::Account;
+pub use answers::{Answered, Refusal, answer_amount, answer_number};
 pub use charges::charge_of;
 pub use limits::{
     LEAST_SIGNED, LEDGER, LINE, LINES, MOST_AMOUNT, MOST_GUARANTEE, MOST_RATE, MOST_SIGNED,
     MOST_WORD, POINTS, ROW, TABLE, USERS,
 };
-pub use points::{Point, is_direct, is_open, point_in_order};
-pub use registers::{Register, blank};
+pub use points::Point;
+pub use registers::{Register, View, blank};

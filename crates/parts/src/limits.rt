@@ -29,4 +29,4 @@ pub const MOST_RATE: u32 = 999_999;
 pub const MOST_GUARANTEE: u64 = 1_000_000_000_000_000;
 
 // The largest number that 64 bits hold.
-pub const MOST_WORD: u64 = 18_446_744_073_709_551_615;
+pub const MOST_WORD: u64 = u64::MAX;

@@ -14,25 +14,27 @@ pub struct Point {
     pub rate: u32,
 }
 
-pub fn is_open(p: Point) -> bool
-    ensures { result ≡ is_open p }
-{
-    0 < p.kind
-}
+impl Point {
+    pub fn is_open(self) -> bool
+        ensures { result ≡ is_open self }
+    {
+        0 < self.kind
+    }
 
-// A direct point is of kind 1, a thermoelectric one of kind 2.
-pub fn is_direct(p: Point) -> bool
-    ensures { result ≡ is_direct p }
-{
-    p.kind == 1
-}
+    // A direct point is of kind 1, a thermoelectric one of kind 2.
+    pub fn is_direct(self) -> bool
+        ensures { result ≡ is_direct self }
+    {
+        self.kind == 1
+    }
 
-// Closed with nothing set, or open within the limits. All tests are made, with no branch.
-pub fn point_in_order(p: Point) -> bool
-    ensures { result ≡ point_ok p }
-{
-    (p.kind == 0) & (p.total == 0) & (p.rate == 0)
-        | ((1 <= p.kind) & (p.kind <= 2))
-            & ((1 <= p.total) & (p.total <= MOST_AMOUNT))
-            & (p.rate <= MOST_RATE)
+    // Closed with nothing set, or open within the limits. All tests are made, with no branch.
+    pub fn is_in_order(self) -> bool
+        ensures { result ≡ point_ok self }
+    {
+        (self.kind == 0) & (self.total == 0) & (self.rate == 0)
+            | ((1 <= self.kind) & (self.kind <= 2))
+                & ((1 <= self.total) & (self.total <= MOST_AMOUNT))
+                & (self.rate <= MOST_RATE)
+    }
 }

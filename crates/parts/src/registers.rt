@@ -38,3 +38,11 @@ pub fn blank(year: u16) -> Register
         lines: 0,
     }
 }
+
+// The register with the two lists that are lent beside it, all to be read: what the questions are put to.
+#[derive(Clone, Copy)]
+pub struct View<'a> {
+    pub register: &'a Register,
+    pub free: &'a [u32],
+    pub ledger: &'a [u32],
+}

@@ -4,23 +4,13 @@ ghost use Rattle.days.specs.Days.{day_of};
 ghost use Rattle.working_days.specs.WorkingDays.{week_earlier, easter_offset, easter_sunday, easter_monday, fixed_holiday, working, working_count, nth_of_month};
 ghost use Rattle.working_days.specs.Answers.{easter_answer, type_answer, count_answer, nth_answer};
 
-use days::{
-    Date, GasDay, LAST_DAY, date_at, day_number, is_month, is_year, month_length, month_start,
-};
+use days::{Date, LAST_DAY, date_at, day_number, is_month, is_year, month_length, month_start};
 
 // Whether a gas-day is a working day.
-#[derive(Clone, Copy)]
+#[derive(Clone, Copy, PartialEq, Eq)]
 pub enum DayType {
     Working,
     NonWorking,
-    OutsideCalendar,
-}
-
-// A number of days.
-#[derive(Clone, Copy)]
-pub enum DayCount {
-    Count(u8),
-    OutsideCalendar,
 }
 
 // The two exceptions of Gauss's rule, in which Easter is a week earlier.
@@ -84,27 +74,27 @@ fn is_working(date: Date, number: u32, monday: u32) -> bool
 }
 
 // Easter Sunday of a year.
-pub fn easter(year: u16) -> GasDay
+pub fn easter(year: u16) -> Option<u16>
     ensures { result ≡ easter_answer year }
 {
     if is_year(year) {
-        return GasDay::Day(easter_sunday(year) as u16);
+        return Some(easter_sunday(year) as u16);
     }
-    GasDay::OutsideCalendar
+    None
 }
 
 // Whether a gas-day is a working day.
-pub fn day_type(day: u16) -> DayType
+pub fn day_type(day: u16) -> Option<DayType>
     ensures { result ≡ type_answer day }
 {
     if LAST_DAY < day {
-        return DayType::OutsideCalendar;
+        return None;
     }
     let d = date_at(day);
     if is_working(d, day as u32, easter_monday(d.year)) {
-        return DayType::Working;
+        return Some(DayType::Working);
     }
-    DayType::NonWorking
+    Some(DayType::NonWorking)
 }
 
 // The number of working days of a month, also of one outside the calendar.
@@ -114,34 +104,28 @@ fn count_of_month(year: u16, month: u8) -> u8
     let first = month_start(year, month);
     let monday = easter_monday(year);
     let len = month_length(year, month);
-    let mut day: u8 = 1;
     let mut count: u8 = 0;
-    while day <= len {
-        let date = Date {
-            year: year,
-            month: month,
-            day: day,
-        };
+    for day in 1..len + 1 {
+        let date = Date { year, month, day };
         if is_working(date, first + (day as u32 - 1), monday) {
             count += 1;
         }
-        day += 1;
     }
     count
 }
 
 // How many working days a month has.
-pub fn working_days_of(year: u16, month: u8) -> DayCount
+pub fn working_days_of(year: u16, month: u8) -> Option<u8>
     ensures { result ≡ count_answer year month }
 {
     if is_month(year, month) {
-        return DayCount::Count(count_of_month(year, month));
+        return Some(count_of_month(year, month));
     }
-    DayCount::OutsideCalendar
+    None
 }
 
-// The n-th working day of a month that has so many, by its day of the month. No test for the month's end: each month of the
-// calendar has at least 18 working days, which is proved.
+// The n-th working day of a month that has so many, by its day of the month. No `for`: that would test for the month's end, and the
+// rule is that each month has at least 18 working days: that is shown, not tested for at run time.
 #[tactic(auto, using(crate::proofs::WorkingDayLaws::sought_here))]
 fn nth_of_month(year: u16, month: u8, n: u8) -> u8
     requires { (1 ≤ n) × (n ≤ working_count year month) }
@@ -152,11 +136,7 @@ fn nth_of_month(year: u16, month: u8, n: u8) -> u8
     let mut day: u8 = 1;
     let mut left = n;
     loop {
-        let date = Date {
-            year: year,
-            month: month,
-            day: day,
-        };
+        let date = Date { year, month, day };
         if is_working(date, first + (day as u32 - 1), monday) {
             if left == 1 {
                 return day;
@@ -168,12 +148,12 @@ fn nth_of_month(year: u16, month: u8, n: u8) -> u8
 }
 
 // The n-th working day of a month, for n from 1 to 18.
-pub fn nth_working_day(year: u16, month: u8, n: u8) -> GasDay
+pub fn nth_working_day(year: u16, month: u8, n: u8) -> Option<u16>
     ensures { result ≡ nth_answer year month n }
 {
     if is_month(year, month) & ((1 <= n) & (n <= 18)) {
         let day = nth_of_month(year, month, n);
-        return GasDay::Day(day_number(year, month, day) as u16);
+        return Some(day_number(year, month, day) as u16);
     }
-    GasDay::OutsideCalendar
+    None
 }

@@ -10,31 +10,26 @@ pub loop-month-init : goal.loop-month-init
 unfolding date_of year_of
 loop-month-init c =
     rw c.year_start.ensures.value
-    (omega arith, omega arith, refl, omega (arith, january (year_of c.args.day), year_from c.args.day), refl)
+    (refl, omega (arith, january (year_of c.args.day), year_from c.args.day), refl)
 
 pub returns-then-rest-len : goal.returns-then-rest-len
-returns-then-rest-len c = sym (date_here _ _ _ (search rules) (omega arith)) ∙ c.loop-month.invariant.2
+returns-then-rest-len c = sym (date_here _ _ _ (search rules) (omega arith)) ∙ c.loop-month.invariant.0
 
 pub loop-month-preserved : goal.loop-month-preserved
 loop-month-preserved c =
     let y : ℕ = 2000 + 4 * c.args.day / 1461 in
     rw c.month_length-len.ensures
-    (omega arith, omega arith, sym (date_on y c.loop-month.month c.loop-month.rest (search rules) (omega arith)) ∙ c.loop-month.invariant.2, omega (arith, month_next y c.loop-month.month c.loop-month.invariant.0), c.loop-month.invariant.4)
-
-pub overflow_add-result-2 : goal.overflow_add-result-2
-unfolding year_of
-overflow_add-result-2 c =
-    let rest-small : c.loop-month.rest < 31 = let p : c.loop-month.month ≡ 12 = omega arith in omega (arith, rw p at c.loop-month.invariant.3, year_until c.args.day, year_end (year_of c.args.day) (year_of_least c.args.day), month_next (year_of c.args.day) 12 (omega arith), december (year_of c.args.day)) in
-    omega (arith, rest-small)
+    (sym (date_on y c.loop-month.month c.loop-month.rest (search rules) (omega arith)) ∙ c.loop-month.invariant.0, omega (arith, month_next y c.loop-month.month (omega arith)), c.loop-month.invariant.2)
 
 pub overflow_cast-result-2 : goal.overflow_cast-result-2
 unfolding year_of
 overflow_cast-result-2 c =
-    let rest-small : c.loop-month.rest < 31 = let p : c.loop-month.month ≡ 12 = omega arith in omega (arith, rw p at c.loop-month.invariant.3, year_until c.args.day, year_end (year_of c.args.day) (year_of_least c.args.day), month_next (year_of c.args.day) 12 (omega arith), december (year_of c.args.day)) in
+    let p : c.loop-month.month ≡ 12 = omega arith in
+    let rest-small : c.loop-month.rest < 31 = omega (arith, rw p at c.loop-month.invariant.1, year_until c.args.day, year_end (year_of c.args.day) (year_of_least c.args.day), month_next (year_of c.args.day) 12 (omega arith), december (year_of c.args.day)) in
     omega (arith, rest-small)
 
 pub returns : goal.returns
 unfolding date_from
 returns c =
     let p : c.loop-month.month ≡ 12 = omega arith in
-    rw p (rw p at c.loop-month.invariant.2)
+    rw p at c.loop-month.invariant.0

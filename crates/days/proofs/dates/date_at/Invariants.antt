@@ -8,7 +8,4 @@ use Rattle.days.specs.Days.{date_of, date_from, year_of, month_start}
 use Rattle.days.proofs.dates.date_at.Given as goal
 
 abbrev pub invariant-loop-month : goal.invariant-loop-month
-invariant-loop-month l = (1 ≤ l.month) × (l.month ≤ 12) × (date_from l.year l.month l.rest (12 - l.month) ≡ date_of l.day) × (month_start l.year l.month + l.rest ≡ l.day) × (l.year ≡ year_of l.day)
-
-abbrev pub decreases-loop-month : goal.decreases-loop-month
-decreases-loop-month l = 12 - l.month
+invariant-loop-month l = (date_from l.year l.month l.rest (12 - l.month) ≡ date_of l.day) × (month_start l.year l.month + l.rest ≡ l.day) × (l.year ≡ year_of l.day)

@@ -7,7 +7,4 @@ use Rattle.days.specs.Days.{days_before}
 use Rattle.days.proofs.dates.days_before.Given as goal
 
 abbrev pub invariant-loop-k : goal.invariant-loop-k
-invariant-loop-k l = (l.k ≤ l.months) × (l.sum ≡ days_before l.year l.k) × (l.sum ≤ 255 * l.k)
-
-abbrev pub decreases-loop-k : goal.decreases-loop-k
-decreases-loop-k l = l.months - l.k
+invariant-loop-k l = (l.sum ≡ days_before l.year l.k) × (l.sum ≤ 255 * l.k)

@@ -27,13 +27,10 @@ overflow_add-count c =
     let short : c.month_length-len.result ≤ 31 = omega (arith, c.month_length-len.ensures, month_most c.args.year c.args.month) in
     omega (arith, short)
 
-pub overflow_add-day : goal.overflow_add-day
-overflow_add-day c =
+pub overflow_add-day-end : goal.overflow_add-day-end
+overflow_add-day-end c =
     let short : c.month_length-len.result ≤ 31 = omega (arith, c.month_length-len.ensures, month_most c.args.year c.args.month) in
     omega (arith, short)
-
-pub loop-day-smaller : goal.loop-day-smaller
-loop-day-smaller c = omega arith
 
 pub loop-day-preserved : goal.loop-day-preserved
 loop-day-preserved c =

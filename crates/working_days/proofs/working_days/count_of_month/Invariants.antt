@@ -8,6 +8,3 @@ use Rattle.working_days.proofs.working_days.count_of_month.Given as goal
 
 abbrev pub invariant-loop-day : goal.invariant-loop-day
 invariant-loop-day l = Counted l.year l.month (l.len + 1) (working_count l.year l.month) l.day l.count
-
-abbrev pub decreases-loop-day : goal.decreases-loop-day
-decreases-loop-day l = l.len + 1 - l.day
