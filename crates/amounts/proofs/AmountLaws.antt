@@ -11,12 +11,18 @@ use lib.Dec.{ltb}
 use lib.ListN.{get_or, set, length}
 use lib.Seq.{ext_get_or}
 use borrow.Author.Tests.{lt-ltb, le-ltb}
+use Rattle.std.specs.Prelude.{Some, None}
+use Rattle.days.specs.Days.{between}
+use Rattle.calendar.specs.declared.thermal_years.Span.{Span}
 use Rattle.calendar.specs.ThermalYears.{is_thermal_year, in_thermal_year}
+use Rattle.calendar.specs.Answers.{year_answer}
+use Rattle.calendar.proofs.SpanLaws.{year_span, no_year}
 use Rattle.parts.specs.declared.points.Point.{Point}
 use Rattle.parts.specs.Limits.{point_count, row_length, table_length}
 use Rattle.amounts.specs.Ranges.{replaced}
 use Rattle.parts.specs.Registers.{point_at}
-use Rattle.amounts.specs.Amounts.{year_days, days_of_year, entry_at, entry_of, entry_in, capacity, less_by, taken, freed_row, capacity_at, freed_table}
+use Rattle.amounts.specs.Amounts.{span_days, year_days, days_of_year, entry_at, entry_of, entry_in, capacity, less_by, taken, freed_row, capacity_at, freed_table}
+use Rattle.amounts.proofs.CalendarLaws.{year_facts, in_year, in_no_year}
 use Rattle.amounts.proofs.RangeLaws.{replaced_step, replaced_join, replaced_same, replaced_length, replaced_in, replaced_out}
 
 -- the days of a thermal year within limits
@@ -28,6 +34,25 @@ pub no_days : (y : ℕ) → is_thermal_year y ≡ false → days_of_year y ≡ 0
 unfolding days_of_year
 no_days y h = rw h
 
+-- the days of a thermal year, as the calendar answers its span
+pub record DaysFacts (y : ℕ) (s : Span) : Type 0 where
+  pub last : s.last ≤ 36524
+  pub ordered : s.first ≤ s.last
+  pub days : s.last + 1 - s.first ≡ days_of_year y
+
+pub days_facts : (y : ℕ) (s : Span) → year_answer y ≡ Some s → DaysFacts y s
+days_facts y s h =
+    let w = year_span y s h in
+    let f = year_facts y w.year in
+    record {
+      last = omega (arith, w.ends, f.last);
+      ordered = omega (arith, w.begins, w.ends, f.ordered);
+      days = ap₂ span_days w.begins w.ends ∙ sym (days_of_lem y w.year);
+    }
+
+pub no_year_days : (y : ℕ) → year_answer y ≡ None → 0 ≡ days_of_year y
+no_year_days y h = sym (no_days y (no_year y h))
+
 -- the entry of a day of the year
 pub entry_in_lem : (y p d : ℕ) → in_thermal_year y d ≡ true → entry_in y p d ≡ entry_of y p d
 unfolding entry_in
@@ -36,6 +61,18 @@ entry_in_lem y p d h = rw h
 pub entry_out : (y p d : ℕ) → in_thermal_year y d ≡ false → entry_in y p d ≡ table_length
 unfolding entry_in
 entry_out y p d h = rw h
+
+-- the same, as the calendar answers the year's span
+pub entry_within : (y p d : ℕ) (s : Span) → year_answer y ≡ Some s → between s.first s.last d ≡ true → entry_at p (d - s.first) ≡ entry_in y p d
+entry_within y p d s h t =
+    let w = year_span y s h in
+    ap (λ (n : ℕ). entry_at p (d - n)) w.begins ∙ sym (entry_in_lem y p d (in_year y s.first s.last d true w t))
+
+pub entry_beyond : (y p d : ℕ) (s : Span) → year_answer y ≡ Some s → between s.first s.last d ≡ false → table_length ≡ entry_in y p d
+entry_beyond y p d s h t = sym (entry_out y p d (in_year y s.first s.last d false (year_span y s h) t))
+
+pub entry_nowhere : (y p d : ℕ) → year_answer y ≡ None → table_length ≡ entry_in y p d
+entry_nowhere y p d h = sym (entry_out y p d (in_no_year y d (no_year y h)))
 
 -- a day of the year, and one after its end
 pub capacity_in : (days : ℕ) (p : Point) (k : ℕ) → k < days → capacity days p k ≡ p.total

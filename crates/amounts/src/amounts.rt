@@ -2,17 +2,15 @@
 ghost use Rattle.std.specs.Prelude.{◌≡◌};
 ghost use Rattle.amounts.specs.Amounts.{days_of_year, entry_at, entry_in, capacity};
 
-use calendar::Span;
 use parts::{Point, ROW, TABLE};
 
 // The gas-days of a thermal year; 0 for a year that has no thermal year.
 pub fn days_of_year(year: u16) -> usize
     ensures { result ≡ days_of_year year }
 {
-    let span = calendar::thermal_year(year);
-    match span {
-        Span::Days(first, last) => (last + 1 - first) as usize,
-        Span::OutsideCalendar => 0,
+    match calendar::thermal_year(year) {
+        Some(span) => (span.last + 1 - span.first) as usize,
+        None => 0,
     }
 }
 
@@ -23,20 +21,14 @@ fn entry_at(point: u8, k: u16) -> usize
     ROW * (point as usize) + (k as usize)
 }
 
-// The entry of a gas-day of a thermal year, for a point; for a day outside the year the place after the table's end.
+// The entry of a gas-day of a thermal year, for a point; for a day outside the year the place after the table's end. No `Option`: what
+// reads or writes the table finds nothing there, as past the end of any list, and its callers would only say so once more.
 pub fn entry_in(year: u16, point: u8, day: u16) -> usize
     ensures { result ≡ entry_in year point day }
 {
-    let span = calendar::thermal_year(year);
-    match span {
-        Span::Days(first, last) => {
-            if (first <= day) & (day <= last) {
-                entry_at(point, day - first)
-            } else {
-                TABLE
-            }
-        }
-        Span::OutsideCalendar => TABLE,
+    match calendar::thermal_year(year) {
+        Some(span) if span.contains(day) => entry_at(point, day - span.first),
+        _ => TABLE,
     }
 }
 
