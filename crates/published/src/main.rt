@@ -10,273 +10,152 @@
 //   month, which its last day is asked for (0 in December 2099).
 //
 // A write that fails ends the program with an error, but where nobody reads the output any more it ends without a word.
+//
+// Closures that only call a function of the calendar stand where its name could: that name of another crate's function, passed as an
+// argument, was tried and its proof did not close.
 #![tactic(auto)]
 
-ghost use Rattle.std.specs.Prelude.{◌≤◌, ◌<◌};
+ghost use Rattle.std.specs.Prelude.{◌≤◌};
 
-use calendar::{CalendarDate, Date, DayCount, DayType, GasDay, Span, Timeliness};
-use std::io;
+use calendar::{Date, DayType, Span, Timeliness};
 use std::io::{BufWriter, ErrorKind, Write};
+use std::{fmt, io};
 
-fn print_number<W: Write>(out: &mut W, n: u64) -> io::Result<()> {
-    write!(out, "{n}")
-}
+// An answer after a space. What is printed in place of one outside the calendar `stdout` has nowhere.
+#[derive(Drop)]
+struct Field<T>(Option<T>);
 
-// A number after a space.
-fn print_field<W: Write>(out: &mut W, n: u64) -> io::Result<()> {
-    write!(out, " {n}")
-}
-
-// A month or a day of the month, in two digits, after a hyphen.
-fn print_two_digits<W: Write>(out: &mut W, n: u8) -> io::Result<()> {
-    write!(out, "-{n:02}")
-}
-
-// What is printed in place of an answer outside the calendar, which `stdout` has nowhere.
-fn print_outside<W: Write>(out: &mut W) -> io::Result<()> {
-    write!(out, " outside the calendar")
-}
-
-fn end_line<W: Write>(out: &mut W) -> io::Result<()> {
-    writeln!(out)
-}
-
-fn date_of(day: GasDay) -> CalendarDate {
-    match day {
-        GasDay::Day(n) => calendar::date_of(n),
-        GasDay::OutsideCalendar => CalendarDate::OutsideCalendar,
+impl<T: fmt::Display> fmt::Display for Field<T> {
+    fn fmt<W: fmt::Write>(&self, f: &mut fmt::Formatter<W>) -> fmt::Result {
+        match &self.0 {
+            Some(x) => write!(f, " {x}"),
+            None => write!(f, " outside the calendar"),
+        }
     }
 }
 
-fn print_date<W: Write>(out: &mut W, d: Date) -> io::Result<()> {
-    write!(out, " ")?;
-    print_number(out, d.year as u64)?;
-    print_two_digits(out, d.month)?;
-    print_two_digits(out, d.day)
+// The numbers of the first and the last day.
+#[derive(Drop)]
+struct Ends(Span);
+
+impl fmt::Display for Ends {
+    fn fmt<W: fmt::Write>(&self, f: &mut fmt::Formatter<W>) -> fmt::Result {
+        write!(f, "{} {}", self.0.first, self.0.last)
+    }
 }
 
 fn print_easter<W: Write>(out: &mut W, year: u16) -> io::Result<()> {
-    write!(out, "Easter")?;
-    match date_of(calendar::easter(year)) {
-        CalendarDate::On(d) => print_date(out, d)?,
-        CalendarDate::OutsideCalendar => print_outside(out)?,
-    }
-    end_line(out)
-}
-
-fn print_count<W: Write>(out: &mut W, year: u16, month: u8) -> io::Result<()> {
-    match calendar::working_days_of(year, month) {
-        DayCount::Count(n) => print_field(out, n as u64),
-        DayCount::OutsideCalendar => print_outside(out),
-    }
-}
-
-fn print_nth<W: Write>(out: &mut W, year: u16, month: u8, n: u8) -> io::Result<()> {
-    match date_of(calendar::nth_working_day(year, month, n)) {
-        CalendarDate::On(d) => print_field(out, d.day as u64),
-        CalendarDate::OutsideCalendar => print_outside(out),
-    }
+    let date = calendar::easter(year).and_then(|day| calendar::date_of(day));
+    writeln!(out, "Easter{}", Field(date))
 }
 
 fn print_month<W: Write>(out: &mut W, year: u16, month: u8) -> io::Result<()> {
-    print_number(out, year as u64)?;
-    print_two_digits(out, month)?;
-    print_count(out, year, month)?;
-    print_nth(out, year, month, 10)?;
-    print_nth(out, year, month, 11)?;
-    print_nth(out, year, month, 14)?;
-    print_nth(out, year, month, 16)?;
-    end_line(out)
-}
-
-fn print_span<W: Write>(out: &mut W, s: Span) -> io::Result<()> {
-    match s {
-        Span::Days(first, last) => {
-            print_field(out, first as u64)?;
-            print_field(out, last as u64)
-        }
-        Span::OutsideCalendar => print_outside(out),
+    let count = calendar::working_days_of(year, month);
+    write!(out, "{year}-{month:02}{}", Field(count))?;
+    for n in [10, 11, 14, 16] {
+        let date = calendar::nth_working_day(year, month, n).and_then(|day| calendar::date_of(day));
+        write!(out, "{}", Field(date.map(|d| d.day)))?;
     }
-}
-
-fn print_thermal_months<W: Write>(out: &mut W, year: u16) -> io::Result<()> {
-    for month in 1..13 {
-        print_span(out, calendar::thermal_month(year, month))?;
-    }
-    Ok(())
+    writeln!(out)
 }
 
 fn print_thermal_year<W: Write>(out: &mut W, year: u16) -> io::Result<()> {
-    write!(out, "thermal")?;
-    print_field(out, year as u64)?;
-    print_span(out, calendar::thermal_year(year))?;
-    print_thermal_months(out, year)?;
-    end_line(out)
-}
-
-// How many days of a month are found to be what, and the first of the next month.
-#[derive(Drop)]
-struct Findings {
-    exist: u16,
-    working: u16,
-    in_time: u16,
-    late: u16,
-    in_time_for_next: u16,
-    followed: u16,
-    next_first: u16,
-}
-
-// A count, one higher where a thing is found. A month has no more than 31 days.
-fn counted(count: u16, found: bool) -> u16 {
-    if !found {
-        return count;
+    let days = calendar::thermal_year(year);
+    write!(out, "thermal {year}{}", Field(days.map(Ends)))?;
+    for month in 1..13 {
+        let days = calendar::thermal_month(year, month);
+        write!(out, "{}", Field(days.map(Ends)))?;
     }
-    if count < 31 { count + 1 } else { count }
+    writeln!(out)
 }
 
-fn is_working(day: u16) -> bool {
-    match calendar::day_type(day) {
-        DayType::Working => true,
-        DayType::NonWorking => false,
-        DayType::OutsideCalendar => false,
-    }
-}
-
-fn is_in_time(t: Timeliness) -> bool {
-    match t {
-        Timeliness::InTime => true,
-        Timeliness::Late => false,
-        Timeliness::OutsideCalendar => false,
-    }
-}
-
-fn is_late(t: Timeliness) -> bool {
-    match t {
-        Timeliness::InTime => false,
-        Timeliness::Late => true,
-        Timeliness::OutsideCalendar => false,
-    }
+// How many days of a month, each asked alone, are such.
+fn how_many<F: Fn(u16, Date) -> bool>(year: u16, month: u8, is_such: F) -> usize
+    requires { F.IsAlwaysCallable is_such }
+{
+    (1..32)
+        .filter(|day| {
+            let date = Date {
+                year,
+                month,
+                day: *day,
+            };
+            calendar::day_of(date).is_some_and(|number| is_such(number, date))
+        })
+        .count()
 }
 
 // Whether an arrival is in time for the month after a month of the calendar, which is one of a thermal year.
 fn is_in_time_for_next(arrival: u16, year: u16, month: u8) -> bool
     requires { (1 ≤ year) × (1 ≤ month) × (month ≤ 12) }
 {
-    if month < 9 {
-        return is_in_time(calendar::in_time_preceding_month(arrival, year - 1, month + 4, 11));
-    }
-    is_in_time(calendar::in_time_preceding_month(arrival, year, month - 8, 11))
-}
-
-// Whether the date of a day is the date.
-fn is_date_of(day: u16, date: Date) -> bool {
-    match calendar::date_of(day) {
-        CalendarDate::On(d) => {
-            (d.year == date.year) & ((d.month == date.month) & (d.day == date.day))
-        }
-        CalendarDate::OutsideCalendar => false,
-    }
+    let timeliness = if month < 9 {
+        calendar::in_time_preceding_month(arrival, year - 1, month + 4, 11)
+    } else {
+        calendar::in_time_preceding_month(arrival, year, month - 8, 11)
+    };
+    timeliness == Some(Timeliness::InTime)
 }
 
 // Whether the date after a date is that of the next number.
 fn is_followed(day: u16, date: Date) -> bool {
-    match calendar::next_date(date) {
-        CalendarDate::On(d) => match calendar::day_of(d) {
-            GasDay::Day(next) => day as u32 + 1 == next as u32,
-            GasDay::OutsideCalendar => false,
-        },
-        CalendarDate::OutsideCalendar => false,
-    }
+    calendar::next_date(date)
+        .and_then(|next| calendar::day_of(next))
+        .is_some_and(|next| day as u32 + 1 == next as u32)
 }
 
-fn first_after(day: u16) -> u16 {
-    match calendar::next_first(day) {
-        GasDay::Day(first) => first,
-        GasDay::OutsideCalendar => 0,
-    }
-}
-
-// The findings with those of one day more.
-fn with_day(f: Findings, day: u16, date: Date) -> Findings
-    requires { (1 ≤ date.year) × (1 ≤ date.month) × (date.month ≤ 12) }
-{
-    Findings {
-        exist: counted(f.exist, is_date_of(day, date)),
-        working: counted(f.working, is_working(day)),
-        in_time: counted(f.in_time, is_in_time(calendar::in_time_own_month(day, 11))),
-        late: counted(f.late, is_late(calendar::in_time_own_month(day, 11))),
-        in_time_for_next: counted(
-            f.in_time_for_next,
-            is_in_time_for_next(day, date.year, date.month),
-        ),
-        followed: counted(f.followed, is_followed(day, date)),
-        next_first: first_after(day),
-    }
-}
-
-fn found(year: u16, month: u8) -> Findings
-    requires { (1 ≤ year) × (1 ≤ month) × (month ≤ 12) }
-{
-    let mut f = Findings {
-        exist: 0,
-        working: 0,
-        in_time: 0,
-        late: 0,
-        in_time_for_next: 0,
-        followed: 0,
-        next_first: 0,
-    };
-    for day in 1..32 {
-        let date = Date {
-            year: year,
-            month: month,
-            day: day,
-        };
-        if let GasDay::Day(n) = calendar::day_of(date) {
-            f = with_day(f, n, date);
-        }
-    }
-    f
+// The first of the next month, asked for the last day of a month; 0 where there is none.
+fn first_after(year: u16, month: u8) -> u16 {
+    (1..32)
+        .filter_map(|day| calendar::day_of(Date { year, month, day }))
+        .last()
+        .and_then(|day| calendar::next_first(day))
+        .unwrap_or(0)
 }
 
 fn print_findings<W: Write>(out: &mut W, year: u16, month: u8) -> io::Result<()>
     requires { (1 ≤ year) × (1 ≤ month) × (month ≤ 12) }
 {
-    let f = found(year, month);
-    write!(out, "days ")?;
-    print_number(out, year as u64)?;
-    print_two_digits(out, month)?;
-    print_field(out, f.exist as u64)?;
-    print_field(out, f.working as u64)?;
-    print_field(out, f.in_time as u64)?;
-    print_field(out, f.late as u64)?;
-    print_field(out, f.in_time_for_next as u64)?;
-    print_field(out, f.followed as u64)?;
-    print_field(out, f.next_first as u64)?;
-    end_line(out)
+    let exist = how_many(
+        year,
+        month,
+        |day, date| calendar::date_of(day) == Some(date),
+    );
+    let working = how_many(year, month, |day, _| {
+        calendar::day_type(day) == Some(DayType::Working)
+    });
+    let in_time = how_many(year, month, |day, _| {
+        calendar::in_time_own_month(day, 11) == Some(Timeliness::InTime)
+    });
+    let late = how_many(year, month, |day, _| {
+        calendar::in_time_own_month(day, 11) == Some(Timeliness::Late)
+    });
+    let in_time_for_next = how_many(year, month, |day, _| is_in_time_for_next(day, year, month));
+    let followed = how_many(year, month, is_followed);
+    let first = first_after(year, month);
+    writeln!(
+        out,
+        "days {year}-{month:02} {exist} {working} {in_time} {late} {in_time_for_next} {followed} {first}"
+    )
 }
 
 // The lines in their order.
-fn print_line<W: Write>(out: &mut W, line: u16) -> io::Result<()>
-    requires { line < 2599 }
-{
-    if line < 100 {
-        return print_easter(out, 2000 + line);
-    }
-    if line < 1300 {
-        let month = line - 100;
-        return print_month(out, 2000 + month / 12, (1 + month % 12) as u8);
-    }
-    if line < 1399 {
-        return print_thermal_year(out, 2000 + (line - 1300));
-    }
-    let month = line - 1399;
-    print_findings(out, 2000 + month / 12, (1 + month % 12) as u8)
-}
-
 fn print_lines<W: Write>(out: &mut W) -> io::Result<()> {
-    for line in 0..2599 {
-        print_line(out, line)?;
+    for year in 2000..2100 {
+        print_easter(out, year)?;
+    }
+    for year in 2000..2100 {
+        for month in 1..13 {
+            print_month(out, year, month)?;
+        }
+    }
+    for year in 2000..2099 {
+        print_thermal_year(out, year)?;
+    }
+    for year in 2000..2100 {
+        for month in 1..13 {
+            print_findings(out, year, month)?;
+        }
     }
     out.flush()
 }
