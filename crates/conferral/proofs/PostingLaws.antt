@@ -14,7 +14,6 @@ use Rattle.calendar.specs.ThermalYears.{is_thermal_year}
 use Rattle.parts.specs.declared.points.Point.{Point}
 use Rattle.parts.specs.declared.accounts.Account.{Account}
 use Rattle.parts.specs.declared.registers.Register.{Register}
-use Rattle.ledger.specs.declared.ledger.Line.{Line}
 use Rattle.parts.specs.Limits.{point_count, user_count, line_count, row_length, most_amount}
 use Rattle.parts.specs.Tests.{every}
 use Rattle.parts.specs.Registers.{State, state, point_at, account_at, absent_user, with_lines, with_account, with_accounts}
@@ -82,30 +81,6 @@ module _ (n : ℕ) (a : Account) (p : Point) (g : Grant) where
         line = omega (arith, leb-true (n + 1) line_count (and_right (covers a (charge_at p g)) (leb (n + 1) line_count) c));
       }
 
-  -- at each exit of the code's test
-  pub no_room : fit ≡ false → room_for n a p g ≡ false
-  unfolding room_for
-  no_room h = rw h
-
-  pub room_where : fit ≡ true → room_for n a p g ≡ (covers a (charge_at p g) && leb (n + 1) line_count)
-  unfolding room_for
-  room_where h = rw h
-
--- the parts as the code leaves them
-pub posted_as : (n : ℕ) (a : Account) (p : Point) (g : Grant) (ls : List ℕ) → room_for n a p g ≡ true
-    → (charge : ℕ) (b : Account) (m : List ℕ) (l : Line)
-    → l ≡ line_of g
-    → m ≡ with_line ls n l
-    → charge ≡ charge_at p g
-    → b ≡ committed a charge
-    → posting b (n + 1) g.amount m ≡ post_after n a p g ls
-unfolding post_after
-posted_as n a p g ls fits charge b m l line-so written-so charge-so account-so = rw (fits, account-so, charge-so, written-so, line-so)
-
-pub not_posted : (n : ℕ) (a : Account) (p : Point) (g : Grant) (ls : List ℕ) → room_for n a p g ≡ false → posting a n 0 ls ≡ post_after n a p g ls
-unfolding post_after
-not_posted n a p g ls h = rw h
-
 -- the places that the code reads are a grant's own, where there are such
 pub own_user : (g : Grant) → g.user < user_count → g.user % 64 ≡ g.user
 own_user g h = omega (arith, h)
@@ -113,11 +88,7 @@ own_user g h = omega (arith, h)
 pub own_point : (ps : List Point) (g : Grant) → g.point < point_count → point_at ps (g.point % 32) ≡ point_at ps g.point
 own_point ps g h = let e : g.point % 32 ≡ g.point = omega (arith, h) in ap (point_at ps) e
 
--- the days of one whose span is in the year follow each other
-pub span_days_lem : (y : ℕ) (g : Grant) → span_in_year y g.first g.last ≡ true → g.first ≤ g.last
-span_days_lem y g h = (fit_facts y g.first g.last (and_right (is_thermal_year y) (span_fits y g.first g.last) h)).ordered
-
--- and its first day has its place in the table
+-- the first day of one whose span is in the year has its place in the table
 pub span_place_lem : (y : ℕ) (g : Grant) → span_in_year y g.first g.last ≡ true → entry_in y g.point g.first ≡ entry_of y g.point g.first
 span_place_lem y g h =
     let f = fit_facts y g.first g.last (and_right (is_thermal_year y) (span_fits y g.first g.last) h) in

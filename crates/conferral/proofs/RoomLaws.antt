@@ -1,12 +1,11 @@
 -- Laws of grants that a register has room for.
 -- Assumes nothing.
-use mathlib.Core.Path.{◌≡◌, refl, sym, ap}
-use mathlib.Core.Bool.{Bool, true, false}
+use mathlib.Core.Path.{◌≡◌, ap}
+use mathlib.Core.Bool.{Bool, true}
 use Prim.Native.Nat.{ℕ, ◌+◌, ◌≤◌, ◌<◌, min}
 use native.Mathlib.Nat.{mul-le-mul}
 use native.Mathlib.Omega.{arith}
-use lib.Dec.{leb}
-use borrow.Author.Tests.{ltb-true, leb-true, leb-false, lt-ltb, le-leb}
+use borrow.Author.Tests.{ltb-true, leb-true, lt-ltb, le-leb}
 use Rattle.days.specs.Days.{last_day}
 use Rattle.calendar.specs.ThermalYears.{is_thermal_year}
 use Rattle.days.proofs.Ranges.{and_left, and_right, both, Within, within, is_between}
@@ -22,18 +21,6 @@ use Rattle.conferral.specs.declared.bookings.Grant.{Grant}
 use Rattle.spans.specs.Spans.{span_fits, span_in_year}
 use Rattle.conferral.specs.Bookings.{covers, lines_left, days_of, charge_of, committed, field_tests, within_limits, charge_within, is_covered, has_room}
 use Rattle.spans.proofs.SpanLaws.{FitFacts, fit_facts, span_fits_lem}
-
--- tests that hold of the same numbers are the same
-pub same_leb : (a b c d : ℕ) → (a ≤ b → c ≤ d) → (c ≤ d → a ≤ b) → leb a b ≡ leb c d
-same_leb a b c d f g = go (leb a b) refl
-  where
-    go : (t : Bool) → leb a b ≡ t → t ≡ leb c d
-    go true e = sym (le-leb c d (f (leb-true a b e)))
-    go false e = no (leb c d) refl
-      where
-        no : (u : Bool) → leb c d ≡ u → false ≡ u
-        no true h = absurd (omega (arith, leb-false a b e, g (leb-true c d h)))
-        no false h = refl
 
 -- 64 bits hold the charge of an amount within limits, on the days of a year and at any rate of 32 bits
 pub charge_exact : (amount days rate : ℕ) → amount ≤ most_amount → days ≤ row_length → rate ≤ 4294967295 → charge_word amount days rate ≡ charge amount days rate
@@ -77,8 +64,10 @@ module _ (y : ℕ) (g : Grant) where
   days_most w = omega (arith, w.fit.begins, w.fit.ordered, w.fit.ends, (year_facts y w.year).most)
 
   -- its charge can be found
-  pub charge_bounds : LimitFacts y g → (g.first ≤ g.last) × ((g.last ≤ last_day) × ((days_of g ≤ row_length) × (g.amount ≤ most_amount)))
-  charge_bounds w = (w.fit.ordered, (omega (arith, w.fit.ends, (year_facts y w.year).last), (days_most w, w.amount.to)))
+  pub charge_bounds : within_limits y g ≡ true → (g.first ≤ g.last) × ((g.last ≤ last_day) × ((days_of g ≤ row_length) × (g.amount ≤ most_amount)))
+  charge_bounds h =
+      let w = limits h in
+      (w.fit.ordered, (omega (arith, w.fit.ends, (year_facts y w.year).last), (days_most w, w.amount.to)))
 
 -- its charge
 pub charge_within_lem : (r : Register) (g : Grant) → LimitFacts r.year g → charge_within r g ≡ charge_of r g
