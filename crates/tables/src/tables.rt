@@ -9,45 +9,18 @@ use parts::{POINTS, Point, ROW};
 fn places_within(len: usize, at: usize, n: usize) -> usize
     ensures { result ≡ min n (len - at) }
 {
-    if len < at {
-        return 0;
-    }
-    let left = len - at;
-    if left < n {
-        return left;
-    }
-    n
-}
-
-fn smaller(a: u32, b: u32) -> u32
-    ensures { result ≡ min a b }
-{
-    if b < a {
-        return b;
-    }
-    a
-}
-
-// A difference that stops at 0.
-fn less(a: u32, b: u32) -> u32
-    ensures { result ≡ a - b }
-{
-    if a < b {
-        return 0;
-    }
-    a - b
+    n.min(len.saturating_sub(at))
 }
 
 // The smallest of `most` and of the n free amounts from place `at` on; an amount past the end is 0.
+#[tactic(auto, using(amounts::proofs::RangeLaws::least_past), unfolding(amounts::specs::Ranges::least_of))]
 pub fn least_free(free: &[u32], at: usize, n: usize, most: u32) -> u32
     ensures { result ≡ least_of free.now at n most }
 {
     let within = places_within(free.len(), at, n);
     let mut least = most;
-    let mut k: usize = 0;
-    while k < within {
-        least = smaller(least, free[at + k]);
-        k += 1;
+    for k in 0..within {
+        least = least.min(free[at + k]);
     }
     if within < n {
         return 0;
@@ -55,15 +28,14 @@ pub fn least_free(free: &[u32], at: usize, n: usize, most: u32) -> u32
     least
 }
 
-// Takes an amount from each of the n free amounts from place `at` on.
+// Takes an amount from each of the n free amounts from place `at` on. What would go below 0 stays at 0.
+#[tactic(auto, using(crate::proofs::TableLaws::take_turns))]
 pub fn take_free(free: &mut [u32], at: usize, n: usize, amount: u32)
     ensures { free.new ≡ taken free.old at n amount }
 {
     let within = places_within(free.len(), at, n);
-    let mut k: usize = 0;
-    while k < within {
-        free[at + k] = less(free[at + k], amount);
-        k += 1;
+    for k in 0..within {
+        free[at + k] = free[at + k].saturating_sub(amount);
     }
 }
 
@@ -71,23 +43,16 @@ pub fn take_free(free: &mut [u32], at: usize, n: usize, amount: u32)
 pub fn clear(list: &mut [u32])
     ensures { list.new ≡ replicate (length list.old) 0 }
 {
-    let mut k: usize = 0;
-    while k < list.len() {
-        list[k] = 0;
-        k += 1;
-    }
+    list.fill(0);
 }
 
 // Each of the n numbers from place `at` on becomes v.
 fn fill(list: &mut [u32], at: usize, n: usize, v: u32)
     ensures { list.new ≡ replaced list.old at n (λ _. v) }
 {
-    let within = places_within(list.len(), at, n);
-    let mut k: usize = 0;
-    while k < within {
-        list[at + k] = v;
-        k += 1;
-    }
+    let from = at.min(list.len());
+    let to = from + places_within(list.len(), at, n);
+    list[from..to].fill(v);
 }
 
 // Every gas-day of a year with so many days is free to the total of point i. The places after the year's end are filled apart, so
@@ -96,19 +61,17 @@ pub fn free_row(free: &mut [u32], i: u8, days: usize, p: Point)
     ensures { free.new ≡ freed_row free.old i days p }
 {
     let at = ROW * (i as usize);
-    let n = places_within(ROW, 0, days);
+    let n = days.min(ROW);
     fill(free, at, n, p.total);
     fill(free, at + n, ROW - n, 0);
 }
 
 // The same of all points.
+#[tactic(auto, using(crate::proofs::TableLaws::table_turns))]
 pub fn free_table(free: &mut [u32], days: usize, points: [Point; 32])
     ensures { free.new ≡ freed_table free.old days points }
 {
-    let mut i: u8 = 0;
-    while (i as usize) < POINTS {
-        let p = points[i as usize];
-        free_row(free, i, days, p);
-        i += 1;
+    for i in 0..POINTS {
+        free_row(free, i as u8, days, points[i]);
     }
 }
