@@ -2,3 +2,4 @@ pub mod OrderLaws
 pub mod OrderFacts
 pub mod OrderKept
 pub mod LineSpans
+pub mod LoopLaws

@@ -7,11 +7,16 @@ use Prim.Native.Nat.{ℕ, ◌+◌, ◌*◌, ◌-◌, ◌/◌, ◌≤◌, ◌<◌
 use native.Mathlib.Decide.{ℕ_discrete}
 use native.Mathlib.Omega.{arith}
 use lib.Dec.{leb, ltb, eqb}
-use lib.ListN.{get_or, set, length, replicate, get_or-replicate}
+use lib.ListN.{get_or, set, length, take, drop, replicate, get_or-replicate, length-drop}
+use Rattle.std.proofs.lemmas.List.{length-take, get_or-take, get_or-drop}
 use lib.Seq.{get_or-set_same, get_or-set_other}
 use borrow.Author.Tests.{ltb-true, leb-true, eqb-true, eq-eqb, ne_eqb}
 use Rattle.days.specs.Days.{between}
 use Rattle.calendar.specs.ThermalYears.{is_thermal_year, YearSpan, is_thermal_month, thermal_first, thermal_last, thermal_month_first, calendar_year, calendar_month}
+use Rattle.std.specs.Prelude.{Some, None}
+use Rattle.calendar.specs.declared.thermal_years.Span.{Span}
+use Rattle.calendar.specs.Answers.{year_answer}
+use Rattle.calendar.proofs.SpanLaws.{year_span, no_year}
 use Rattle.days.proofs.Ranges.{and_left, and_right, both, Within, within, is_between, ThermalMonth}
 use Rattle.days.proofs.DateLaws.{month_least}
 use Rattle.calendar.proofs.ThermalYearLaws.{month_days, thermal_month_from, thermal_month_to}
@@ -23,7 +28,7 @@ use Rattle.parts.specs.Limits.{point_count, user_count, line_length, line_count,
 use Rattle.parts.specs.Tests.{all_below, some_below, every}
 use Rattle.parts.specs.Registers.{State, point_at, account_at}
 use Rattle.ledger.specs.Ledger.{no_line, line_at}
-use Rattle.amounts.specs.Amounts.{year_days, entry_at, capacity}
+use Rattle.amounts.specs.Amounts.{span_days, year_days, entry_at, capacity}
 use Rattle.parts.specs.Points.{is_open}
 use Rattle.parts.specs.Accounts.{is_on_file}
 use Rattle.order.specs.Order.{amount_ok, amount_fits, row_ok, opens_month, is_month_first, names_ok, line_tests, line_ok, line_test, lines_ok, lengths_ok, points_ok, accounts_ok, table_ok, order_tests, in_order}
@@ -35,14 +40,27 @@ use Rattle.amounts.proofs.AmountLaws.{capacity_in}
 
 -- ---- the free amounts
 
--- a row: 365 amounts against the total, and the 366th
-pub row_is : (days : ℕ) (f : List ℕ) (i : ℕ) (p : Point) → 365 ≤ days
-    → (all_below 365 (at_most f (row_length * i) p.total) && leb (get_or f (row_length * i + 365) 0) (capacity days p 365)) ≡ row_ok days f i p
-row_is days f i p h =
-    ap (λ (b : Bool). b && amount_fits days f i p 365)
-    (all_same (at_most f (row_length * i) p.total) (amount_fits days f i p) 365
-    (λ k b. ap (leb (get_or f (entry_at i k) 0)) (sym (capacity_in days p k (omega arith)))))
+-- ---- the free amounts
+
+-- a row: its first 365 amounts, lent by themselves, against the total, and the 366th
+pub row_is : (days : ℕ) (f : List ℕ) (i : ℕ) (p : Point) → 365 ≤ days → row_length * i + row_length ≤ length f
+    → (all_below (length (take (row_length * i + 365 - row_length * i) (drop (row_length * i) f))) (at_most (take (row_length * i + 365 - row_length * i) (drop (row_length * i) f)) p.total)
+    && leb (get_or f (row_length * i + 365) 0) (capacity days p 365)) ≡ row_ok days f i p
+row_is days f i p h b =
+    ap (λ (x : Bool). x && amount_fits days f i p 365)
+    (ap (λ (n : ℕ). all_below n (at_most row p.total)) size
+    ∙ all_same (at_most row p.total) (amount_fits days f i p) 365
+    (λ k l. ap₂ leb (entry k l) (sym (capacity_in days p k (omega arith)))))
     ∙ sym (all_more (amount_fits days f i p) 365)
+  where
+    row : List ℕ
+    row = take (row_length * i + 365 - row_length * i) (drop (row_length * i) f)
+
+    size : length row ≡ 365
+    size = omega (arith, length-take {A = ℕ}, length-drop {A = ℕ})
+
+    entry : (k : ℕ) → k < 365 → get_or row k 0 ≡ get_or f (entry_at i k) 0
+    entry k l = get_or-take (row_length * i + 365 - row_length * i) (drop (row_length * i) f) k 0 (omega arith) ∙ get_or-drop (row_length * i) f k 0
 
 -- ---- the months' firsts
 
@@ -70,46 +88,41 @@ marked_none y h d lo hi =
     ∙ sym (some_none (opens_month y d))
 
 -- one more
-pub marked_more : (y n first opens : ℕ) (marks : List Bool) → is_thermal_year y ≡ true → n < 12 → length marks ≡ row_length → first ≡ thermal_first y
+pub marked_more : (y n first last opens : ℕ) (marks : List Bool) → YearSpan y first last → n < 12 → length marks ≡ row_length
     → opens ≡ thermal_month_first y (n + 1) → Marked y n marks → Marked y (n + 1) (set marks (opens - first) true)
-marked_more y n first opens marks h b size e q m d lo hi = go (ℕ_discrete d opens)
+marked_more y n first last opens marks s b size q m d lo hi = go (ℕ_discrete d opens)
   where
     t : ℕ → Bool
     t = opens_month y d
 
     F : YearFacts y
-    F = year_facts y h
+    F = year_facts y s.year
 
     from : thermal_first y ≤ opens
-    from = omega (arith, q, first_from y n h b)
+    from = omega (arith, q, first_from y n s.year b)
 
     to : opens ≤ thermal_last y
-    to = omega (arith, q, first_to y n h b)
+    to = omega (arith, q, first_to y n s.year b)
 
     place : opens - first ≡ opens - thermal_first y
-    place = ap (λ (k : ℕ). opens - k) e
+    place = ap (λ (k : ℕ). opens - k) s.begins
 
     go : Dec (d ≡ opens) → get_or (set marks (opens - first) true) (d - thermal_first y) false ≡ some_below (n + 1) t
-    go (yes s) =
-        ap (λ (k : ℕ). get_or (set marks (opens - first) true) k false) (ap (λ (k : ℕ). k - thermal_first y) s ∙ sym place)
+    go (yes e) =
+        ap (λ (k : ℕ). get_or (set marks (opens - first) true) k false) (ap (λ (k : ℕ). k - thermal_first y) e ∙ sym place)
         ∙ get_or-set_same marks (opens - first) true false (omega (arith, size, place, from, to, F.most))
-        ∙ sym (some_more t n ∙ ap (λ (x : Bool). some_below n t || x) (eq-eqb d (thermal_month_first y (n + 1)) (s ∙ q)) ∙ or-true (some_below n t))
+        ∙ sym (some_more t n ∙ ap (λ (x : Bool). some_below n t || x) (eq-eqb d (thermal_month_first y (n + 1)) (e ∙ q)) ∙ or-true (some_below n t))
     go (no ne) =
-        get_or-set_other marks (opens - first) (d - thermal_first y) true false (λ s. ne (omega (arith, s, place, lo, from)))
+        get_or-set_other marks (opens - first) (d - thermal_first y) true false (λ e. ne (omega (arith, e, place, lo, from)))
         ∙ m d lo hi
-        ∙ sym (some_more t n ∙ ap (λ (x : Bool). some_below n t || x) (ne_eqb d (thermal_month_first y (n + 1)) (λ s. ne (s ∙ sym q))) ∙ or-false (some_below n t))
+        ∙ sym (some_more t n ∙ ap (λ (x : Bool). some_below n t || x) (ne_eqb d (thermal_month_first y (n + 1)) (λ e. ne (e ∙ sym q))) ∙ or-false (some_below n t))
 
 -- where the first of a month stands among the marks
-pub mark_place : (y n first opens : ℕ) → is_thermal_year y ≡ true → n < 12 → first ≡ thermal_first y → opens ≡ thermal_month_first y (n + 1)
+pub mark_place : (y n first last opens : ℕ) → YearSpan y first last → n < 12 → opens ≡ thermal_month_first y (n + 1)
     → (first ≤ opens) × (opens - first < row_length)
-mark_place y n first opens h b e q =
-    let F = year_facts y h in
-    (omega (arith, e, q, first_from y n h b), omega (arith, e, q, first_from y n h b, first_to y n h b, F.most))
-
-pub marked_all : (y n : ℕ) (marks : List Bool) → n ≤ 12 → 12 ≤ n → Marked y n marks → Marked y 12 marks
-marked_all y n marks a b m d lo hi =
-    let e : n ≡ 12 = omega arith in
-    m d lo hi ∙ ap (λ (k : ℕ). some_below k (opens_month y d)) e
+mark_place y n first last opens s b q =
+    let F = year_facts y s.year in
+    (omega (arith, s.begins, q, first_from y n s.year b), omega (arith, s.begins, q, first_from y n s.year b, first_to y n s.year b, F.most))
 
 -- ---- the lines
 
@@ -234,6 +247,9 @@ module _ (s : State) where
   unfolding in_order
   no_year_order h = sym (every_false (order_tests s) 1 h)
 
+  pub no_span_order : year_answer s.register.year ≡ None → false ≡ in_order s
+  no_span_order h = no_year_order (no_year s.register.year h)
+
   pub no_points : (points_ok s.register.points && accounts_ok s.register.accounts) ≡ false → false ≡ in_order s
   unfolding in_order
   no_points h = go (points_ok s.register.points) refl
@@ -242,18 +258,31 @@ module _ (s : State) where
       go false e = sym (every_false (order_tests s) 2 e)
       go true e = sym (every_false (order_tests s) 3 (subst (λ (b : Bool). (b && accounts_ok s.register.accounts) ≡ false) e h))
 
-  pub no_table : table_ok (year_days s.register.year) s.free s.register.points ≡ false → false ≡ in_order s
-  unfolding in_order
-  no_table h = sym (every_false (order_tests s) 4 h)
+-- what the code answers early
+pub ruleset order_exits = (no_lengths, no_span_order, no_points)
 
-  pub by_lines : lengths_ok s.register.lines s.free s.ledger ≡ true → is_thermal_year s.register.year ≡ true
+-- where the year has its span: the days of the code are the year's
+pub days_is : (y : ℕ) (d : Span) → year_answer y ≡ Some d → span_days d.first d.last ≡ year_days y
+days_is y d h = let s = year_span y d h in ap₂ span_days s.begins s.ends
+
+pub days_least : (y : ℕ) (d : Span) → year_answer y ≡ Some d → 365 ≤ d.last + 1 - d.first
+days_least y d h = omega (arith, days_is y d h, (year_facts y (year_span y d h).year).least)
+
+module _ (s : State) (d : Span) (h : year_answer s.register.year ≡ Some d) where
+  pub no_table : table_ok (span_days d.first d.last) s.free s.register.points ≡ false → false ≡ in_order s
+  unfolding in_order
+  no_table f =
+      sym (every_false (order_tests s) 4 (ap (λ (n : ℕ). table_ok n s.free s.register.points) (sym (days_is s.register.year d h)) ∙ f))
+
+  pub by_lines : lengths_ok s.register.lines s.free s.ledger ≡ true
       → (points_ok s.register.points && accounts_ok s.register.accounts) ≡ true
-      → table_ok (year_days s.register.year) s.free s.register.points ≡ true
+      → table_ok (span_days d.first d.last) s.free s.register.points ≡ true
       → lines_ok s.register s.ledger ≡ in_order s
   unfolding in_order
-  by_lines a b c d =
+  by_lines a c t =
       go (lengths_ok s.register.lines s.free s.ledger) (is_thermal_year s.register.year) (points_ok s.register.points)
-      (accounts_ok s.register.accounts) (table_ok (year_days s.register.year) s.free s.register.points) (lines_ok s.register s.ledger) a b c d
+      (accounts_ok s.register.accounts) (table_ok (year_days s.register.year) s.free s.register.points) (lines_ok s.register s.ledger) a
+      (year_span s.register.year d h).year c (ap (λ (n : ℕ). table_ok n s.free s.register.points) (sym (days_is s.register.year d h)) ∙ t)
     where
       go : (v w x z t l : Bool) → v ≡ true → w ≡ true → (x && z) ≡ true → t ≡ true → l ≡ (((((v && w) && x) && z) && t) && l)
       go true true true true true l p q r o = refl

@@ -1,6 +1,6 @@
 -- Terms of the contracts of private functions: how the code goes about it. No contract that a caller reads rests on them.
 -- Assumes nothing.
-use Rattle.std.specs.Prelude.{ℕ, ◌+◌, ◌-◌, ◌≤◌, ◌≡◌, Bool, false, not, ◌||◌, List, [], ◌∷◌, leb, eqb, get_or}
+use Rattle.std.specs.Prelude.{ℕ, ◌-◌, ◌≤◌, ◌≡◌, Bool, false, not, ◌||◌, List, [], ◌∷◌, leb, eqb, get_or}
 use Rattle.days.specs.Days.{between}
 use Rattle.calendar.specs.ThermalYears.{thermal_first, thermal_last}
 use Rattle.parts.specs.declared.points.Point.{Point}
@@ -11,9 +11,9 @@ use Rattle.parts.specs.Points.{is_open}
 use Rattle.parts.specs.Accounts.{is_on_file}
 use Rattle.order.specs.Order.{opens_month, amount_ok}
 
--- the k-th number from `at` on is at most m
-abbrev pub at_most : List ℕ → ℕ → ℕ → ℕ → Bool
-at_most l at m k = leb (get_or l (at + k) 0) m
+-- the k-th number is at most m
+abbrev pub at_most : List ℕ → ℕ → ℕ → Bool
+at_most l m k = leb (get_or l k 0) m
 
 -- marks of the firsts of the first n months of thermal year Y, by the days from 1 October
 abbrev pub Marked : ℕ → ℕ → List Bool → Type 0

@@ -1,38 +1,19 @@
 use mathlib.Core.Path.{refl}
-use Prim.Native.Nat.{◌-◌, ◌≤◌, ◌<◌}
 use lib.ListN.{length-set}
-use Rattle.parts.specs.Limits.{row_length}
-use Rattle.order.proofs.OrderLaws.{is_thermal_month_lem, marked_none, marked_more, marked_all, mark_place}
-use native.Mathlib.Omega.{arith}
+use Rattle.order.proofs.OrderLaws.{marked_none, marked_more, mark_place}
 use Rattle.order.proofs.order.month_marks.Goals as goal
 
 pub loop-n-init : goal.loop-n-init
-loop-n-init c = (omega arith, (refl, marked_none c.args.year c.requires.0))
-
-pub month_first-opens-requires : goal.month_first-opens-requires
-month_first-opens-requires c = is_thermal_month_lem c.args.year c.loop-n.n c.requires.0 (omega arith)
+loop-n-init c = (refl, marked_none c.args.year c.requires.year)
 
 pub overflow_sub-marks : goal.overflow_sub-marks
-overflow_sub-marks c =
-    let placed : ((c.args.first ≤ c.month_first-opens.result) × (c.month_first-opens.result - c.args.first < row_length)) = mark_place c.args.year c.loop-n.n c.args.first c.month_first-opens.result c.requires.0 (omega arith) c.requires.1 c.month_first-opens.ensures in
-    placed.0
+overflow_sub-marks c = (mark_place _ _ _ _ _ c.requires c.loop-n-test.true c.month_first-opens.ensures).0
 
 pub bounds-marks-opens : goal.bounds-marks-opens
-bounds-marks-opens c =
-    let placed : ((c.args.first ≤ c.month_first-opens.result) × (c.month_first-opens.result - c.args.first < row_length)) = mark_place c.args.year c.loop-n.n c.args.first c.month_first-opens.result c.requires.0 (omega arith) c.requires.1 c.month_first-opens.ensures in
-    placed.1
-
-pub loop-n-smaller : goal.loop-n-smaller
-loop-n-smaller c = omega arith
+bounds-marks-opens c = (mark_place _ _ _ _ _ c.requires c.loop-n-test.true c.month_first-opens.ensures).1
 
 pub loop-n-preserved : goal.loop-n-preserved
 loop-n-preserved c = (
-  omega arith,
-  (
-    simp length-set c.loop-n.invariant.1.0,
-    marked_more c.args.year c.loop-n.n c.args.first c.month_first-opens.result c.loop-n.marks c.requires.0 (omega arith) c.loop-n.invariant.1.0 c.requires.1 c.month_first-opens.ensures c.loop-n.invariant.1.1,
-  ),
+  simp length-set c.loop-n.invariant.0,
+  marked_more _ _ _ _ _ c.loop-n.marks c.requires c.loop-n-test.true c.loop-n.invariant.0 c.month_first-opens.ensures c.loop-n.invariant.1,
 )
-
-pub returns : goal.returns
-returns c = marked_all _ _ c.loop-n.marks c.loop-n.invariant.0 (omega arith) c.loop-n.invariant.1.1

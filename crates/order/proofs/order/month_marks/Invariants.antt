@@ -1,12 +1,8 @@
 use mathlib.Core.Path.{◌≡◌}
-use Prim.Native.Nat.{◌-◌, ◌≤◌}
 use lib.ListN.{length}
 use Rattle.parts.specs.Limits.{row_length}
 use Rattle.order.specs.Steps.{Marked}
 use Rattle.order.proofs.order.month_marks.Given as goal
 
 abbrev pub invariant-loop-n : goal.invariant-loop-n
-invariant-loop-n l = (l.n ≤ 12) × ((length l.marks ≡ row_length) × Marked l.year l.n l.marks)
-
-abbrev pub decreases-loop-n : goal.decreases-loop-n
-decreases-loop-n l = 12 - l.n
+invariant-loop-n l = (length l.marks ≡ row_length) × Marked l.year l.n l.marks
