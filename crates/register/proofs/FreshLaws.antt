@@ -41,3 +41,6 @@ module _ (y : ℕ) (f ls : List ℕ) where
   fresh_old h r e =
       ap (λ (x : Register). state x f ls) e
       ∙ sym (leaves_old (fresh_number y f ls) (fresh_state y) (state (blank_register 0) f ls) h)
+
+-- what each exit of `fresh_register` leaves
+pub ruleset fresh_exits = (fresh_new, fresh_old)

@@ -13,9 +13,9 @@ pub use fresh::fresh_register;
 pub use ledger::{Line, line_at, write_line};
 pub use order::in_order;
 pub use parts::{
-    Account, Filed, LEDGER, LINE, LINES, MOST_AMOUNT, MOST_GUARANTEE, MOST_RATE, MOST_WORD, POINTS,
-    Point, ROW, Refusal, Register, Report, TABLE, USERS, Verdict, charge_of, is_direct, is_on_file,
-    is_open, refusal_number, report_amount, report_number, verdict_number,
+    Account, Answered, LEDGER, LINE, LINES, MOST_AMOUNT, MOST_GUARANTEE, MOST_RATE, MOST_WORD,
+    POINTS, Point, ROW, Refusal, Register, TABLE, USERS, View, answer_amount, answer_number,
+    charge_of,
 };
 pub use reports::report_free;
 pub use tables::{clear, free_row, free_table, least_free, take_free};
