@@ -1,3 +1,2 @@
-pub mod SignLaws
 pub mod LedgerLaws
 pub mod LineLaws

@@ -1,40 +1,19 @@
 // The lent ledger: five numbers for each line, in turn. Nothing outside this file knows where a field stands in a line.
 ghost use Rattle.std.specs.Prelude.{◌≡◌};
-ghost use Rattle.ledger.specs.Ledger.{Holds, signed_of, bits_of, has_line, fields_at, with_fields, line_at, with_line};
+ghost use Rattle.ledger.specs.Ledger.{Holds, has_line, fields_at, with_fields, line_at, with_line};
 
 use parts::LINE;
 
-// A line as a value. Kind 1 is annual, 2 month, 3 day; `first` is its first gas-day.
+// A line as a value. Kind 1 is annual, 2 month, 3 day, a number as it stands in lent memory, which may have any other; `first` is the
+// first gas-day.
 #[repr(C)]
-#[derive(Clone, Copy)]
+#[derive(Clone, Copy, Default)]
 pub struct Line {
     pub user: u32,
     pub point: u32,
     pub kind: u32,
     pub first: u32,
     pub amount: i32,
-}
-
-// The number that 32 bits stand for, read as signed.
-fn signed(x: u32) -> i32
-    ensures { result ≡ signed_of x }
-{
-    if x < 2_147_483_648 {
-        x as i32
-    } else {
-        -1 - ((4_294_967_295 - x) as i32)
-    }
-}
-
-// The 32 bits of a signed number.
-fn bits(a: i32) -> u32
-    ensures { result ≡ bits_of a }
-{
-    if a < 0 {
-        4_294_967_295 - ((-1 - a) as u32)
-    } else {
-        a as u32
-    }
 }
 
 // Whether the list has a line i, whole.
@@ -44,7 +23,8 @@ fn holds_line(ledger: &[u32], i: usize) -> bool
     i < ledger.len() / LINE
 }
 
-// Line i of a list that has it.
+// Line i of a list that has it. The fields are read by index: of a part with five numbers they would be read by index too.
+#[tactic(auto, unfolding(crate::specs::Ledger::fields_at))]
 fn fields_at(ledger: &[u32], i: usize) -> Line
     requires { Holds ledger.now i }
     ensures { result ≡ fields_at ledger.now i }
@@ -55,44 +35,40 @@ fn fields_at(ledger: &[u32], i: usize) -> Line
         point: ledger[at + 1],
         kind: ledger[at + 2],
         first: ledger[at + 3],
-        amount: signed(ledger[at + 4]),
+        amount: ledger[at + 4].cast_signed(),
     }
 }
 
-// Line i; past the end a line of zeros.
+// Line i; past the end a line of zeros, by a rule of the project: all that is public is total, and a number read past the end is 0.
+#[tactic(auto, unfolding(crate::specs::Ledger::line_at))]
 pub fn line_at(ledger: &[u32], i: usize) -> Line
     ensures { result ≡ line_at ledger.now i }
 {
     if holds_line(ledger, i) {
         return fields_at(ledger, i);
     }
-    Line {
-        user: 0,
-        point: 0,
-        kind: 0,
-        first: 0,
-        amount: 0,
-    }
+    Line::default()
 }
 
+#[tactic(auto, unfolding(crate::specs::Ledger::with_fields))]
 fn write_fields(ledger: &mut [u32], i: usize, l: Line)
     requires { Holds ledger.old i }
     ensures { ledger.new ≡ with_fields ledger.old i l }
 {
     let at = LINE * i;
-    let amount = bits(l.amount);
     ledger[at] = l.user;
     ledger[at + 1] = l.point;
     ledger[at + 2] = l.kind;
     ledger[at + 3] = l.first;
-    ledger[at + 4] = amount;
+    ledger[at + 4] = l.amount.cast_unsigned();
 }
 
 // Writes line i; past the end nothing is written.
+#[tactic(auto, unfolding(crate::specs::Ledger::with_line))]
 pub fn write_line(ledger: &mut [u32], i: usize, l: Line)
     ensures { ledger.new ≡ with_line ledger.old i l }
 {
-    if holds_line(&ledger[..], i) {
+    if holds_line(ledger, i) {
         write_fields(ledger, i, l);
     }
 }
