@@ -23,9 +23,9 @@ use Rattle.ledger.specs.Ledger.{line_at, line_last}
 use Rattle.amounts.proofs.CalendarLaws.{thermal_year, day_within, day_year}
 use Rattle.holdings.specs.declared.holdings.Holding.{Holding}
 use Rattle.holdings.specs.declared.gathering.GatheredLine.{GatheredLine}
-use Rattle.holdings.specs.declared.ends.Bounds.{Bounds}
+use Rattle.calendar.specs.declared.thermal_years.Span.{Span}
 use Rattle.holdings.specs.Holdings.{signed_sum, is_his, covers_day, part_of, part_in}
-use Rattle.holdings.specs.Steps.{bounds_of, end_of, is_gathered, gathered_line, part_on, gathered_part, part_throughout, counts_on_some, places}
+use Rattle.holdings.specs.Steps.{bounds_of, end_of, is_gathered, gathered_line, part_on, no_line, gathered_part, part_throughout, counts_on_some, places}
 use Rattle.holdings.proofs.SumLaws.{sum_more, sum_same}
 
 -- a day between the bounds of a year is a day of it
@@ -48,17 +48,13 @@ month_inside y d h =
     let october = next_least d (y + 1) 10 (omega (arith, w.from)) (record { from = omega arith; to = omega arith }) (omega (arith, b.to, thermal_next y)) in
     omega (arith, october, month_least (y + 1) 10, month_in (y + 1) 10 (record { year = record { from = omega (arith, w.from); to = omega (arith, w.to) }; month = record { from = omega arith; to = omega arith } }))
 
--- what a line adds on a day of what is kept of it
-abbrev line_part : ℕ → GatheredLine → ℤ
-line_part d c = part_on d c.first c.last c.amount
-
 -- a line that is gathered is of the year
-module _ (y : ℕ) (h : Holding) (b : Bounds) (l : Line) (eb : b ≡ bounds_of y) where
+module _ (y : ℕ) (h : Holding) (b : Span) (l : Line) (eb : b ≡ bounds_of y) where
   abbrev his : Bool
   his = is_his h.user h.point l
 
   of_year : between b.first b.last l.first ≡ in_thermal_year y l.first
-  of_year = ap (λ (x : Bounds). between x.first x.last l.first) eb ∙ bounds_in y l.first
+  of_year = ap (λ (x : Span). between x.first x.last l.first) eb ∙ bounds_in y l.first
 
   gathered_year : is_gathered h b l ≡ true → in_thermal_year y l.first ≡ true
   gathered_year g = sym of_year ∙ and_right his (between b.first b.last l.first) g
@@ -68,14 +64,14 @@ module _ (y : ℕ) (h : Holding) (b : Bounds) (l : Line) (eb : b ≡ bounds_of y
 
   -- the year ends with the last of its bounds, so the line's last day is the definition's
   year_end : is_thermal_year y ≡ true → b.last ≡ thermal_last y
-  year_end t = ap (λ (x : Bounds). x.last) eb ∙ rw t
+  year_end t = ap (λ (x : Span). x.last) eb ∙ rw t
 
   same_end : in_thermal_year y l.first ≡ true → end_of b.last l ≡ line_last y l
   unfolding line_last
   same_end t = ap (λ (n : ℕ). end_of n l) (year_end (day_year y l.first t))
 
   -- what it adds on a day is what is kept of it
-  pub gathered_part_lem : (d : ℕ) → is_gathered h b l ≡ true → cond (in_thermal_year y l.first) (part_of y h.user h.point d l) (pos 0) ≡ line_part d (gathered_line b.last l)
+  pub gathered_part_lem : (d : ℕ) → is_gathered h b l ≡ true → cond (in_thermal_year y l.first) (part_of y h.user h.point d l) (pos 0) ≡ part_on d (gathered_line b.last l)
   gathered_part_lem d g =
       rw (gathered_year g, and_left his (between b.first b.last l.first) g) (ap (λ (n : ℕ). cond (between l.first n d) l.amount (pos 0)) (sym (same_end (gathered_year g))))
 
@@ -132,57 +128,49 @@ swapped a s t p =
     ∙ sym (+ℤ_assoc a t (s +ℤ p))
 
 -- ---- one more line
-module _ (y : ℕ) (ls : List ℕ) (h : Holding) (i : ℕ) (b : Bounds) (l : Line) (eb : b ≡ bounds_of y) (el : l ≡ line_at ls i)
-    (firsts lasts : List ℕ) (amounts : List ℤ) (n : ℕ) (z : ℤ)
-    (sums : (d : ℕ) → h.first ≤ d → d ≤ h.last → signed_sum i (part_in y ls h.user h.point d) ≡ z +ℤ signed_sum n (gathered_part firsts lasts amounts d)) where
+module _ (y : ℕ) (ls : List ℕ) (h : Holding) (i : ℕ) (b : Span) (l : Line) (eb : b ≡ bounds_of y) (el : l ≡ line_at ls i)
+    (cs : List GatheredLine) (n : ℕ) (z : ℤ)
+    (sums : (d : ℕ) → h.first ≤ d → d ≤ h.last → signed_sum i (part_in y ls h.user h.point d) ≡ z +ℤ signed_sum n (gathered_part cs d)) where
   part : (d : ℕ) → part_in y ls h.user h.point d i ≡ cond (in_thermal_year y l.first) (part_of y h.user h.point d l) (pos 0)
   part d = ap (λ (x : Line). cond (in_thermal_year y x.first) (part_of y h.user h.point d x) (pos 0)) (sym el)
 
   -- it is gathered
-  module _ (c : GatheredLine) (room : (n < length firsts) × (n < length lasts) × (n < length amounts)) where
+  module _ (c : GatheredLine) (room : n < length cs) where
     put : (d k : ℕ) → ℤ
-    put d k = gathered_part (set firsts n c.first) (set lasts n c.last) (set amounts n c.amount) d k
+    put d k = gathered_part (set cs n c) d k
 
-    put_other : (d k : ℕ) → k < n → put d k ≡ gathered_part firsts lasts amounts d k
+    put_other : (d k : ℕ) → k < n → put d k ≡ gathered_part cs d k
     unfolding put
-    put_other d k m =
-        let e = get_or-set_other firsts n k c.first 0 (λ q. omega arith) in
-        let f = get_or-set_other lasts n k c.last 0 (λ q. omega arith) in
-        let g = get_or-set_other amounts n k c.amount (pos 0) (λ q. omega arith) in
-        rw (e, f, g)
+    put_other d k m = ap (part_on d) (get_or-set_other cs n k c no_line (λ q. omega arith))
 
-    put_same : (d : ℕ) → put d n ≡ line_part d c
+    put_same : (d : ℕ) → put d n ≡ part_on d c
     unfolding put
-    put_same d =
-        let e = get_or-set_same firsts n c.first 0 room.0 in
-        let f = get_or-set_same lasts n c.last 0 room.1 in
-        let g = get_or-set_same amounts n c.amount (pos 0) room.2 in
-        rw (e, f, g)
+    put_same d = ap (part_on d) (get_or-set_same cs n c no_line room)
 
     -- it takes a place or none
-    put_sum : (d : ℕ) (t : Bool) → signed_sum (n + cond t 1 0) (put d) ≡ signed_sum n (gathered_part firsts lasts amounts d) +ℤ cond t (line_part d c) (pos 0)
+    put_sum : (d : ℕ) (t : Bool) → signed_sum (n + cond t 1 0) (put d) ≡ signed_sum n (gathered_part cs d) +ℤ cond t (part_on d c) (pos 0)
     put_sum d true =
         sum_more n (put d)
-        ∙ ap₂ ◌+ℤ◌ (sum_same n (put d) (gathered_part firsts lasts amounts d) (put_other d)) (put_same d)
+        ∙ ap₂ ◌+ℤ◌ (sum_same n (put d) (gathered_part cs d) (put_other d)) (put_same d)
     put_sum d false =
         ap (λ (k : ℕ). signed_sum k (put d)) (add-zero n)
-        ∙ sum_same n (put d) (gathered_part firsts lasts amounts d) (put_other d)
+        ∙ sum_same n (put d) (gathered_part cs d) (put_other d)
         ∙ sym (+ℤ_idr _)
 
-    pub one_gathered : (firsts' lasts' : List ℕ) (amounts' : List ℤ) (n' : ℕ) (z' : ℤ) → is_gathered h b l ≡ true → c ≡ gathered_line b.last l
-        → firsts' ≡ set firsts n c.first → lasts' ≡ set lasts n c.last → amounts' ≡ set amounts n c.amount → n' ≡ n + places h c → z' ≡ z +ℤ part_throughout h c
-        → (d : ℕ) → h.first ≤ d → d ≤ h.last → signed_sum (i + 1) (part_in y ls h.user h.point d) ≡ z' +ℤ signed_sum n' (gathered_part firsts' lasts' amounts' d)
+    pub one_gathered : (cs' : List GatheredLine) (n' : ℕ) (z' : ℤ) → is_gathered h b l ≡ true → c ≡ gathered_line b.last l
+        → cs' ≡ set cs n c → n' ≡ n + places h c → z' ≡ z +ℤ part_throughout h c
+        → (d : ℕ) → h.first ≤ d → d ≤ h.last → signed_sum (i + 1) (part_in y ls h.user h.point d) ≡ z' +ℤ signed_sum n' (gathered_part cs' d)
     unfolding put
-    one_gathered firsts' lasts' amounts' n' z' g ec ef eg ea en ez d from to =
-        rw (ef, eg, ea, en, ez)
+    one_gathered cs' n' z' g ec es en ez d from to =
+        rw (es, en, ez)
         (sum_more i (part_in y ls h.user h.point d)
-        ∙ ap₂ ◌+ℤ◌ (sums d from to) (part d ∙ gathered_part_lem y h b l eb d g ∙ ap (line_part d) (sym ec) ∙ split c.first c.last h.first h.last d from to c.amount)
-        ∙ swapped z (signed_sum n (gathered_part firsts lasts amounts d)) (part_throughout h c) (cond (counts_on_some h c) (line_part d c) (pos 0))
+        ∙ ap₂ ◌+ℤ◌ (sums d from to) (part d ∙ gathered_part_lem y h b l eb d g ∙ ap (part_on d) (sym ec) ∙ split c.span.first c.span.last h.first h.last d from to c.amount)
+        ∙ swapped z (signed_sum n (gathered_part cs d)) (part_throughout h c) (cond (counts_on_some h c) (part_on d c) (pos 0))
         ∙ ap (λ (x : ℤ). (z +ℤ part_throughout h c) +ℤ x) (sym (put_sum d (counts_on_some h c))))
 
   -- it is left out
   pub one_left : is_gathered h b l ≡ false
-      → (d : ℕ) → h.first ≤ d → d ≤ h.last → signed_sum (i + 1) (part_in y ls h.user h.point d) ≡ z +ℤ signed_sum n (gathered_part firsts lasts amounts d)
+      → (d : ℕ) → h.first ≤ d → d ≤ h.last → signed_sum (i + 1) (part_in y ls h.user h.point d) ≡ z +ℤ signed_sum n (gathered_part cs d)
   one_left g d from to =
       sum_more i (part_in y ls h.user h.point d)
       ∙ ap₂ ◌+ℤ◌ (sums d from to) (part d ∙ other_part y h b l eb d g)

@@ -2,7 +2,7 @@
 -- and in a register that is in order the code's sums are what is held.
 -- Assumes nothing.
 use mathlib.Core.Path.{◌≡◌, refl, sym, ap, ◌∙◌, subst}
-use mathlib.Core.Bool.{Bool, true, false, cond, not, ◌&&◌, and-true, and_assoc, true≢false}
+use mathlib.Core.Bool.{Bool, true, false, cond, not, ◌&&◌, and-true, and_assoc}
 use mathlib.Core.List.{List, [], ◌∷◌}
 use Prim.Native.Nat.{ℕ, zero, suc, ◌+◌, ◌-◌, ◌≤◌, ◌<◌, min}
 use native.Mathlib.Decide.{ℕ_discrete}
@@ -11,6 +11,7 @@ use native.Mathlib.Numerals.{add-one}
 use native.Mathlib.Omega.{arith}
 use lib.IntN.{ℤ, pos}
 use lib.Signed.{lt_z}
+use Rattle.std.specs.Prelude.{Option, Some, None}
 use Rattle.parts.specs.Limits.{line_count}
 use Rattle.parts.specs.Tests.{all_below}
 use Rattle.parts.specs.Registers.{State}
@@ -22,8 +23,6 @@ use Rattle.order.proofs.OrderFacts.{ordered, line_facts}
 use Rattle.amounts.specs.Amounts.{span_days}
 use Rattle.parts.proofs.TestLaws.{all_none, all_same}
 use Rattle.holdings.specs.declared.holdings.Holding.{Holding}
-use Rattle.holdings.specs.declared.holdings.Held.{Held}
-use Rattle.holdings.specs.declared.holdings.Held.TheVariants.{Throughout, ShortOn}
 use Rattle.holdings.specs.Holdings.{signed_sum, part_at, part_in, held_on, held_in, short_in, too_little, holds_throughout, first_short, LinesIn, held_answer, is_throughout, number_of_held}
 use Rattle.holdings.specs.declared.gathering.Gathered.{Gathered}
 use Rattle.holdings.specs.Steps.{Gathers, gathered_short}
@@ -31,13 +30,13 @@ use Rattle.holdings.proofs.SumLaws.{sum_same}
 
 -- ---- the first of the days from d to last
 module _ (short : ℕ → Bool) (last d : ℕ) where
-  pub first_none : last < d → first_short short (span_days d last) d ≡ Throughout
+  pub first_none : last < d → first_short short (span_days d last) d ≡ None
   unfolding first_short
   first_none h =
       let e : span_days d last ≡ 0 = omega arith in
       rw e
 
-  pub first_hit : d ≤ last → short d ≡ true → first_short short (span_days d last) d ≡ ShortOn d
+  pub first_hit : d ≤ last → short d ≡ true → first_short short (span_days d last) d ≡ Some d
   unfolding first_short
   first_hit h t =
       let e : span_days d last ≡ suc (last - d) = omega arith in
@@ -68,19 +67,16 @@ pub record First (short : ℕ → Bool) (n d e : ℕ) : Type 0 where
   pub is_short : short e ≡ true
   pub earlier : (k : ℕ) → d ≤ k → k < e → short k ≡ false
 
-day_of : Held → ℕ
-day_of Throughout = 0
-day_of (ShortOn e) = e
-
 module _ (short : ℕ → Bool) where
-  pub short_first : (n d e : ℕ) → first_short short n d ≡ ShortOn e → First short n d e
-  unfolding first_short day_of
-  short_first zero d e h = absurd (true≢false (ap is_throughout h))
+  pub short_first : (n d e : ℕ) → first_short short n d ≡ Some e → First short n d e
+  unfolding first_short
+  short_first zero d e h = absurd (cc h)
   short_first (suc n) d e h = go (short d) refl (short_first n (suc d) e)
     where
-      go : (t : Bool) → short d ≡ t → (first_short short n (suc d) ≡ ShortOn e → First short n (suc d) e) → First short (suc n) d e
+      go : (t : Bool) → short d ≡ t → (first_short short n (suc d) ≡ Some e → First short n (suc d) e) → First short (suc n) d e
       go true p later =
-          let i : e ≡ d = sym (ap day_of (subst (λ (u : Bool). cond u (ShortOn d) (first_short short n (suc d)) ≡ ShortOn e) p h)) in
+          let f = subst (λ (u : Bool). cond u (Some d) (first_short short n (suc d)) ≡ Some e) p h in
+          let i : e ≡ d = cc f in
           record {
             from = omega (arith, i);
             to = omega (arith, i);
@@ -88,7 +84,7 @@ module _ (short : ℕ → Bool) where
             earlier = λ k a b. absurd (omega (arith, i, a, b));
           }
       go false p later =
-          let w = later (subst (λ (u : Bool). cond u (ShortOn d) (first_short short n (suc d)) ≡ ShortOn e) p h) in
+          let w = later (subst (λ (u : Bool). cond u (Some d) (first_short short n (suc d)) ≡ Some e) p h) in
           record {
             from = omega (arith, w.from);
             to = omega (arith, w.to);
@@ -116,16 +112,16 @@ throughout_is short (suc n) d =
     ∙ sym (all_front (λ (k : ℕ). not (short (d + k))) n)
   where
     go : (t : Bool) → short d ≡ t → is_throughout (first_short short n (suc d)) ≡ all_below n (λ (k : ℕ). not (short (suc d + k)))
-        → is_throughout (cond (short d) (ShortOn d) (first_short short n (suc d))) ≡ (not (short (d + 0)) && all_below n (λ (k : ℕ). not (short (d + suc k))))
+        → is_throughout (cond (short d) (Some d) (first_short short n (suc d))) ≡ (not (short (d + 0)) && all_below n (λ (k : ℕ). not (short (d + suc k))))
     go true p rest = rw (add-zero, p)
     go false p rest =
         rw (add-zero, p)
         (rest ∙ all_same (λ (k : ℕ). not (short (suc d + k))) (λ (k : ℕ). not (short (d + suc k))) n (λ k l. ap (λ (j : ℕ). not (short j)) (omega arith)))
 
 -- ---- in a register that is in order
-as_number : (v : Held) → number_of_held v ≡ cond (is_throughout v) 0 10
-as_number Throughout = refl
-as_number (ShortOn d) = refl
+as_number : (v : Option ℕ) → number_of_held v ≡ cond (is_throughout v) 0 10
+as_number None = refl
+as_number (Some d) = refl
 
 pub lines_in : (s : State) → in_order s ≡ true → LinesIn s.register.year s.register.lines s.ledger
 lines_in s h =
@@ -161,7 +157,7 @@ module _ (y n : ℕ) (ls : List ℕ) (w : LinesIn y n ls) where
   held_number h = as_number (held_answer y n ls h) ∙ ap (λ (t : Bool). cond t 0 10) (held_answer_lem h)
 
   -- and else the first that has is named
-  pub held_short : (h : Holding) (e : ℕ) → held_answer y n ls h ≡ ShortOn e → First (too_little y n ls h) (span_days h.first h.last) h.first e
+  pub held_short : (h : Holding) (e : ℕ) → held_answer y n ls h ≡ Some e → First (too_little y n ls h) (span_days h.first h.last) h.first e
   unfolding held_answer
   held_short h e p =
       short_first (too_little y n ls h) (span_days h.first h.last) h.first e

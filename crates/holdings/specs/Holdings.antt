@@ -1,7 +1,7 @@
 -- Document 01, question 10: "Does the giver hold the amount on every day of the span? Held is the sum of his ledger lines there; the
 -- first gas-day with too little settles it."
 -- Assumes nothing.
-use Rattle.std.specs.Prelude.{ℕ, zero, suc, ◌+◌, ◌≤◌, ◌<◌, min, ◌≡◌, Bool, true, false, cond, not, ◌&&◌, List, eqb, ℤ, pos, ◌+ℤ◌}
+use Rattle.std.specs.Prelude.{ℕ, zero, suc, ◌+◌, ◌≤◌, ◌<◌, min, ◌≡◌, Bool, true, false, cond, not, ◌&&◌, List, eqb, ℤ, pos, ◌+ℤ◌, Option, Some, None}
 use Rattle.std.specs.Int.Signed.{lt_z}
 use Rattle.days.specs.Days.{between}
 use Rattle.calendar.specs.ThermalYears.{in_thermal_year}
@@ -11,8 +11,6 @@ use Rattle.parts.specs.Tests.{all_below}
 use Rattle.ledger.specs.Ledger.{line_at, line_last}
 use Rattle.amounts.specs.Amounts.{span_days}
 use Rattle.holdings.specs.declared.holdings.Holding.{Holding}
-use Rattle.holdings.specs.declared.holdings.Held.{Held}
-use Rattle.holdings.specs.declared.holdings.Held.TheVariants.{Throughout, ShortOn}
 
 -- the sum of g 0 to g (n - 1), of signed numbers
 unfoldable pub signed_sum : ℕ → (ℕ → ℤ) → ℤ
@@ -51,9 +49,9 @@ unfoldable pub holds_throughout : ℕ → ℕ → List ℕ → Holding → Bool
 holds_throughout y n ls h = all_below (span_days h.first h.last) (holds_on y n ls h)
 
 -- "the first gas-day with too little settles it": the first of n days from d on that a test holds of
-unfoldable pub first_short : (ℕ → Bool) → ℕ → ℕ → Held
-first_short short zero d = Throughout
-first_short short (suc n) d = cond (short d) (ShortOn d) (first_short short n (suc d))
+unfoldable pub first_short : (ℕ → Bool) → ℕ → ℕ → Option ℕ
+first_short short zero d = None
+first_short short (suc n) d = cond (short d) (Some d) (first_short short n (suc d))
 
 -- ---- the same for any register, also for one that is not in order
 -- what question 1 asks of the n lines that are used, so far as it matters here: they are at most 2,048, and each begins in the year
@@ -73,19 +71,19 @@ abbrev pub short_in : ℕ → ℕ → List ℕ → Holding → ℕ → Bool
 short_in y n ls h d = lt_z (held_in y n ls h.user h.point d) (pos h.amount)
 
 -- the first gas-day of the span with too little
-unfoldable pub held_answer : ℕ → ℕ → List ℕ → Holding → Held
+unfoldable pub held_answer : ℕ → ℕ → List ℕ → Holding → Option ℕ
 held_answer y n ls h = first_short (short_in y n ls h) (span_days h.first h.last) h.first
 
 -- whether there is none, and the number of question 10 (`held_number`)
-abbrev pub is_throughout : Held → Bool
-is_throughout Throughout = true
-is_throughout (ShortOn d) = false
+abbrev pub is_throughout : Option ℕ → Bool
+is_throughout None = true
+is_throughout (Some d) = false
 
-abbrev pub number_of_held : Held → ℕ
-number_of_held Throughout = 0
-number_of_held (ShortOn d) = 10
+abbrev pub number_of_held : Option ℕ → ℕ
+number_of_held None = 0
+number_of_held (Some d) = 10
 
 -- the day as a number for a host; where there is none it is 65,536, which no gas-day has
-abbrev pub short_day : Held → ℕ
-short_day Throughout = 65536
-short_day (ShortOn d) = d
+abbrev pub short_day : Option ℕ → ℕ
+short_day None = 65536
+short_day (Some d) = d

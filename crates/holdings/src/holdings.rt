@@ -6,9 +6,11 @@ ghost use Rattle.amounts.specs.Amounts.{span_days};
 ghost use Rattle.holdings.specs.Holdings.{first_short, held_answer};
 ghost use Rattle.holdings.specs.Steps.{Sized, gathered_short};
 
-use crate::gathering::{Gathered, gather, part_on};
+use crate::gathering::{Gathered, gather};
+use register::LINES;
 
-// An amount that a user is to hold at a point, on each day from first to last.
+// An amount that a user is to hold at a point, on each day from first to last. The two days stand by themselves, since the struct is
+// one of the C interface.
 #[repr(C)]
 #[derive(Clone, Copy)]
 pub struct Holding {
@@ -19,60 +21,50 @@ pub struct Holding {
     pub amount: u32,
 }
 
-// Held on every day of the span, or the first gas-day with too little.
-#[derive(Drop)]
-pub enum Held {
-    Throughout,
-    ShortOn(u16),
-}
-
-// The first gas-day from first to last on which the lines gathered sum to less than the amount: a loop over the days around a loop
-// over the ledger lines, left by label with the short day. The test stands inside the inner loop, so that one `break` leaves both.
-fn short_day(gathered: Gathered, first: u16, last: u16, amount: u32) -> Held
-    requires { (gathered.count ≤ line_count) × (Sized gathered × (mag gathered.base ≤ 2147483648 * line_count)) }
-    ensures { result ≡ first_short (gathered_short gathered amount) (span_days first last) first }
+// The first gas-day of the span on which the lines gathered sum to less than the amount. The planners' scope names the form: a loop
+// over the days around a loop over the ledger lines, left by label with the short day. So both are plain loops, and the test stands
+// inside the inner one, so that one `break` leaves both.
+fn short_day(gathered: &Gathered, h: Holding) -> Option<u16>
+    requires few { gathered.now.count ≤ line_count }
+    requires sized { Sized gathered.now }
+    requires small { mag gathered.now.base ≤ 2147483648 * line_count }
+    ensures { result ≡ first_short (gathered_short gathered.now h.amount) (span_days h.first h.last) h.first }
 {
-    let mut day = first as u32;
-    let held = 'days: loop {
-        if (last as u32) < day {
-            break 'days Held::Throughout;
+    let mut day = h.first as u32;
+    let short = 'days: loop {
+        if (h.last as u32) < day {
+            break 'days None;
         }
         let mut sum = gathered.base;
         let mut k: usize = 0;
         'lines: loop {
             if gathered.count <= k {
-                if sum < amount as i64 {
-                    break 'days Held::ShortOn(day as u16);
+                if sum < h.amount as i64 {
+                    break 'days Some(day as u16);
                 }
                 break 'lines;
             }
-            sum += part_on(
-                gathered.firsts[k],
-                gathered.lasts[k],
-                gathered.amounts[k],
-                day as u16,
-            );
+            sum += gathered.lines[k].part_on(day as u16);
             k += 1;
         }
         day += 1;
     };
-    held
+    short
 }
 
 // How many lines are looked at: the ledger has no more.
 fn used_lines(lines: u16) -> usize
     ensures { result ≡ min lines line_count }
 {
-    if register::LINES < lines as usize {
-        return register::LINES;
-    }
-    lines as usize
+    LINES.min(lines as usize)
 }
 
-// Question 10: does the user hold the amount on every day of the span, by the ledger's first `lines` lines in a thermal year?
-pub fn first_short_day(year: u16, lines: u16, ledger: &[u32], h: Holding) -> Held
+// Question 10: the first gas-day of the span on which the user holds less than the amount, by the ledger's first `lines` lines in a
+// thermal year; `None` where he holds it on every day.
+#[tactic(auto, using(crate::proofs::HeldLaws::gathered_answer))]
+pub fn first_short_day(year: u16, lines: u16, ledger: &[u32], h: Holding) -> Option<u16>
     ensures { result ≡ held_answer year lines ledger.now h }
 {
     let gathered = gather(year, used_lines(lines), ledger, h);
-    short_day(gathered, h.first, h.last, h.amount)
+    short_day(&gathered, h)
 }

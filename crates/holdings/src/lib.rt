@@ -7,4 +7,4 @@ mod ends;
 mod gathering;
 mod holdings;
 
-pub use holdings::{Held, Holding, first_short_day};
+pub use holdings::{Holding, first_short_day};

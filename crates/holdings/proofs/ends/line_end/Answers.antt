@@ -1,6 +1,0 @@
-use Rattle.calendar.proofs.DeadlineLaws.{before_next}
-use native.Mathlib.Omega.{arith}
-use Rattle.holdings.proofs.ends.line_end.Goals as goal
-
-pub overflow_cast-result : goal.overflow_cast-result
-overflow_cast-result c = omega (arith, before_next c.args.l.first, c.requires)
