@@ -2,55 +2,88 @@
 -- Assumes nothing.
 use mathlib.Core.Path.{◌≡◌, refl}
 use mathlib.Core.Bool.{Bool, true, false, cond, ◌&&◌, and-true, and-false}
-use Prim.Native.Nat.{ℕ, ◌+◌, ◌≤◌, ◌<◌}
+use Prim.Native.Nat.{ℕ, ◌+◌, ◌-◌, ◌≤◌, ◌<◌}
 use native.Mathlib.Omega.{arith}
 use lib.Dec.{leb}
 use borrow.Author.Tests.{leb-true, leb-false, le-leb, lt-leb}
-use Rattle.calendar.specs.declared.thermal_years.Span.TheVariants.{Days, OutsideCalendar}
+use Rattle.std.specs.Prelude.{Some, None}
+use Rattle.calendar.specs.declared.thermal_years.Span.{Span}
 use Rattle.calendar.specs.declared.deadlines.Timeliness.TheVariants.{InTime, Late}
-use Rattle.days.specs.declared.dates.GasDay.{GasDay}
-use Rattle.days.specs.declared.dates.GasDay.TheVariants.{Day, OutsideCalendar as NoDay}
 use Rattle.days.specs.Days.{last_day, between, month_length, day_number}
-use Rattle.calendar.specs.ThermalYears.{is_thermal_year, thermal_first, thermal_last, is_thermal_month}
+use Rattle.calendar.specs.ThermalYears.{span, is_thermal_year, thermal_first, thermal_last, is_thermal_month}
 use Rattle.calendar.specs.Deadlines.{next_first, in_time_own, in_time_preceding}
-use Rattle.calendar.specs.Answers.{day_in, next_first_answer, own_answer, preceding_answer}
+use Rattle.calendar.specs.Answers.{year_answer, day_in, next_first_answer, own_answer, preceding_answer}
 use Rattle.days.proofs.Ranges.{and_left, and_right, both, within}
 use Rattle.days.proofs.DateLaws.{month_next}
+use Rattle.calendar.proofs.SpanLaws.{chosen, unchosen, year_span, no_year}
 use Rattle.calendar.proofs.DeadlineLaws.{next_of, next_beyond}
 use Rattle.amounts.proofs.CalendarLaws.{year_facts}
-use Rattle.spans.specs.Spans.{arrives, span_fits, span_in_year, span_ok, span_where, annual_first, annual_last, annual_answer, is_timely}
-use Rattle.spans.specs.Steps.{span_from}
+use Rattle.spans.specs.Spans.{arrives, span_fits, span_in_year, span_ok, annual_first, annual_last, annual_answer, is_timely}
 
 -- 1 September lies 30 days before the year
 pub september : (y : ℕ) → thermal_first y ≡ day_number y 9 1 + 30
 unfolding month_length
 september y = let n : month_length y 9 ≡ 30 = refl in omega (arith, month_next y 9 (omega arith), n)
 
--- from a day to the last of those from first to last: it is one of them, or there is no span
-pub from_day : (g : GasDay) (d first last : ℕ) → g ≡ Day d → between first last d ≡ true → Days d last ≡ span_from g first last
-from_day g d first last e h = rw (e, h)
+last_itself : (y : ℕ) → leb (thermal_last y) (thermal_last y) ≡ true
+last_itself y = le-leb _ _ (omega arith)
 
-pub from_none : (g : GasDay) (d first last : ℕ) → g ≡ Day d → between first last d ≡ false → OutsideCalendar ≡ span_from g first last
-from_none g d first last e h = rw (e, h)
+-- what the year's span, as the calendar answers it, says of an arrival, of a span and of the span to the year's end: the last begins
+-- with the first of the next month, where the calendar has that and it is one of the year's days
+module _ (y : ℕ) (s : Span) (w : year_answer y ≡ Some s) where
+  pub after_september : 30 ≤ s.first
+  after_september = omega (arith, (year_span y s w).begins, september y)
 
--- the span to the year's end, from the first of the next month as the calendar answers it
-pub annual_from : (y a : ℕ) → is_thermal_year y ≡ true → span_from (next_first_answer a) (thermal_first y) (thermal_last y) ≡ annual_answer y a
-unfolding next_first_answer day_in annual_answer
-annual_from y a h = go (leb (next_first a) last_day) refl
-  where
-    last : leb (thermal_last y) (thermal_last y) ≡ true
-    last = le-leb (thermal_last y) (thermal_last y) (omega arith)
+  pub arrives_in : (a : ℕ) → arrives y a ≡ (leb (s.first - 30) a && leb a s.last)
+  arrives_in a =
+      let x = year_span y s w in
+      let e : s.first - 30 ≡ day_number y 9 1 = omega (arith, x.begins, september y) in
+      rw (x.year, e, x.ends)
 
-    go : (t : Bool) → leb (next_first a) last_day ≡ t
-        → span_from (cond t (Day (next_first a)) NoDay) (thermal_first y) (thermal_last y) ≡ span_where (span_in_year y (next_first a) (thermal_last y)) (next_first a) (thermal_last y)
-    go true e = rw (h, last, and-true)
-    go false e =
-        let past : leb (next_first a) (thermal_last y) ≡ false = lt-leb (next_first a) (thermal_last y) (omega (arith, leb-false (next_first a) last_day e, (year_facts y h).last)) in
+  pub fits_in : (first last : ℕ) → span_in_year y first last ≡ (leb s.first first && leb first last && leb last s.last)
+  fits_in first last = let x = year_span y s w in rw (x.year, x.begins, x.ends)
+
+  module _ (a : ℕ) where
+    pub annual_from : (f : ℕ) → next_first_answer a ≡ Some f → between s.first s.last f ≡ true → annual_answer y a ≡ Some (span f s.last)
+    unfolding next_first_answer day_in annual_answer
+    annual_from f n h =
+        let x = year_span y s w in
+        let e : f ≡ next_first a = (chosen _ _ f n).1 in
+        let d : between (thermal_first y) (thermal_last y) (next_first a) ≡ true = rw (← e, ← x.begins, ← x.ends) h in
+        rw (x.year, x.ends, e, last_itself y, and-true, d)
+
+    pub annual_past : (f : ℕ) → next_first_answer a ≡ Some f → between s.first s.last f ≡ false → annual_answer y a ≡ None
+    unfolding next_first_answer day_in annual_answer
+    annual_past f n h =
+        let x = year_span y s w in
+        let d : between (thermal_first y) (thermal_last y) (next_first a) ≡ false = rw (← (chosen _ _ f n).1, ← x.begins, ← x.ends) h in
+        rw (x.year, last_itself y, and-true, d)
+
+    pub annual_beyond : next_first_answer a ≡ None → annual_answer y a ≡ None
+    unfolding next_first_answer day_in annual_answer
+    annual_beyond n =
+        let h = (year_span y s w).year in
+        let past : leb (next_first a) (thermal_last y) ≡ false =
+        lt-leb _ _ (omega (arith, leb-false (next_first a) last_day (unchosen _ (next_first a) n), (year_facts y h).last)) in
         rw (h, past, and-false)
 
-pub no_annual : (y a : ℕ) → is_thermal_year y ≡ false → annual_answer y a ≡ span_where false 0 0
-unfolding annual_answer
-no_annual y a h = rw h
+module _ (y : ℕ) (w : year_answer y ≡ None) where
+  pub arrives_never : (a : ℕ) → arrives y a ≡ false
+  arrives_never a = rw (no_year y w)
+
+  pub fits_never : (first last : ℕ) → span_in_year y first last ≡ false
+  fits_never first last = rw (no_year y w)
+
+  pub annual_never : (a : ℕ) → annual_answer y a ≡ None
+  unfolding annual_answer
+  annual_never a = rw (no_year y w)
+
+-- how the functions come to their answers
+pub ruleset arrives_by = (after_september, arrives_in, arrives_never)
+
+pub ruleset annual_by = (annual_from, annual_past, annual_beyond, annual_never)
+
+pub ruleset fits_by = (fits_in, fits_never)
 
 -- a span of the year, with a day left
 pub record FitFacts (y first last : ℕ) : Type 0 where
@@ -107,7 +140,7 @@ september_none y a h from =
     rw (past, and-false, and-false)
 
 -- whether an arrival is in time, as the calendar answers it
-timely_if : (t : Bool) → is_timely (cond t InTime Late) ≡ t
+timely_if : (t : Bool) → is_timely (Some (cond t InTime Late)) ≡ t
 timely_if true = refl
 timely_if false = refl
 
