@@ -1,12 +1,7 @@
 // What the changing calls give back, in one form for all of them.
-ghost use Rattle.std.specs.Prelude.{◌≡◌};
-ghost use Rattle.parts.specs.Answers.{number_of_verdict};
-ghost use Rattle.requests.specs.RequestCapacity.{number_of_conferral, amount_of_conferral};
-ghost use Rattle.cessions.specs.CedeCapacity.{number_of_answer, amount_of_answer};
+ghost use Rattle.applied.specs.Telling.{TellsNumber, TellsAmount};
 
-use cessions::Ceded;
-use register::{Filed, Register};
-use requests::Conferred;
+use parts::{Answered, Register};
 
 // What a call gives back: the register as it then is, the number, and the amount granted or ceded, else 0.
 #[repr(C)]
@@ -18,46 +13,27 @@ pub struct Applied {
 }
 
 // What a call without an amount gives back.
-pub fn applied_filed(f: Filed) -> Applied
-    ensures number { result.number ≡ number_of_verdict f.answer }
-    ensures amount { result.amount ≡ 0 }
-    ensures register { result.register ≡ f.register }
-{
-    let answer = f.answer;
-    let register = f.register;
-    Applied {
-        register,
-        number: register::verdict_number(answer),
-        amount: 0,
+impl From<Answered<()>> for Applied {
+    ghost from_gives = { TellsNumber };
+
+    fn from(filed: Answered<()>) -> Applied {
+        Applied {
+            register: filed.register,
+            number: parts::answer_number(&filed.answer),
+            amount: 0,
+        }
     }
 }
 
-// What a request gives back.
-pub fn applied_conferred(c: Conferred) -> Applied
-    ensures number { result.number ≡ number_of_conferral c.answer }
-    ensures amount { result.amount ≡ amount_of_conferral c.answer }
-    ensures register { result.register ≡ c.register }
-{
-    let answer = c.answer;
-    let register = c.register;
-    Applied {
-        register,
-        number: requests::conferral_number(answer),
-        amount: requests::conferral_amount(answer),
-    }
-}
+// What a request or a cession gives back, with the amount granted or ceded.
+impl From<Answered<u32>> for Applied {
+    ghost from_gives = { TellsAmount };
 
-// What a cession gives back.
-pub fn applied_ceded(c: Ceded) -> Applied
-    ensures number { result.number ≡ number_of_answer c.answer }
-    ensures amount { result.amount ≡ amount_of_answer c.answer }
-    ensures register { result.register ≡ c.register }
-{
-    let answer = c.answer;
-    let register = c.register;
-    Applied {
-        register,
-        number: cessions::cession_number(answer),
-        amount: cessions::cession_amount(answer),
+    fn from(granted: Answered<u32>) -> Applied {
+        Applied {
+            register: granted.register,
+            number: parts::answer_number(&granted.answer),
+            amount: parts::answer_amount(&granted.answer),
+        }
     }
 }

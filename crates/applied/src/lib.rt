@@ -5,4 +5,4 @@
 
 mod applied;
 
-pub use applied::{Applied, applied_ceded, applied_conferred, applied_filed};
+pub use applied::Applied;
