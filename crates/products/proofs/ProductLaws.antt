@@ -1,13 +1,15 @@
 -- Laws of products: their spans and their deadlines, as the calendar answers them.
 -- Assumes nothing.
 use mathlib.Core.Path.{◌≡◌, refl}
-use mathlib.Core.Bool.{Bool, true, false, and-true, and-false}
+use mathlib.Core.Bool.{Bool, true, false, cond, and-true, and-false}
 use Prim.Native.Nat.{ℕ}
 use native.Mathlib.Omega.{arith}
 use borrow.Author.Tests.{le-leb}
-use Rattle.calendar.specs.declared.thermal_years.Span.TheVariants.{OutsideCalendar}
+use Rattle.std.specs.Prelude.{Some, None}
+use Rattle.std.specs.Bool.{then_some}
+use Rattle.calendar.specs.declared.thermal_years.Span.{Span}
 use Rattle.days.specs.Days.{between}
-use Rattle.calendar.specs.ThermalYears.{is_thermal_year, is_thermal_month, calendar_year, calendar_month}
+use Rattle.calendar.specs.ThermalYears.{span, thermal_first, thermal_last, is_thermal_year, in_thermal_year, is_thermal_month, calendar_year, calendar_month}
 use Rattle.calendar.specs.Answers.{month_answer}
 use Rattle.days.proofs.Ranges.{both, month_of_test}
 use Rattle.days.proofs.DateLaws.{month_least}
@@ -17,7 +19,6 @@ use Rattle.spans.proofs.SpanLaws.{span_fits_lem, arrival_year, timely_own, timel
 use Rattle.products.specs.declared.products.Product.{Product}
 use Rattle.products.specs.declared.products.Product.TheVariants.{Annual, Month, Day}
 use Rattle.products.specs.Products.{first_of, last_of, month_ok, deadline, is_in_time, span_answer, time_answer}
-use Rattle.products.specs.Steps.{day_span}
 
 month_in : (y a m : ℕ) → arrives y a ≡ true → between 1 12 m ≡ true → is_thermal_month y m ≡ true
 month_in y a m h b = both (is_thermal_year y) (between 1 12 m) (arrival_year y a h) b
@@ -30,31 +31,39 @@ time_asked y a (Month m) h o = timely_preceding y a m deadline h (month_in y a m
 time_asked y a (Day d) h o = refl
 
 -- ---- question 8
-pub no_arrival : (y a : ℕ) (k : Product) → arrives y a ≡ false → OutsideCalendar ≡ span_answer y a k
+then_some_lem : (t : Bool) (s : Span) → cond t (Some s) None ≡ then_some t s
+then_some_lem true s = refl
+then_some_lem false s = refl
+
+pub no_arrival : (y a : ℕ) (k : Product) → arrives y a ≡ false → span_answer y a k ≡ None
 unfolding span_answer
 no_arrival y a k h = rw (h, and-false)
 
-pub annual_span : (y a : ℕ) (k : Product) → k ≡ Annual → arrives y a ≡ true → annual_answer y a ≡ span_answer y a k
-unfolding span_answer annual_answer
-annual_span y a k e h = rw (e, h, arrival_year y a h)
+module _ (y a : ℕ) (h : arrives y a ≡ true) where
+  pub annual_span : span_answer y a Annual ≡ annual_answer y a
+  unfolding span_answer annual_answer
+  annual_span = rw (h, arrival_year y a h)
 
-pub month_span : (y a m : ℕ) (k : Product) → k ≡ Month m → arrives y a ≡ true → month_answer y m ≡ span_answer y a k
-unfolding span_answer month_answer
-month_span y a m k e h = go (between 1 12 m) refl
-  where
-    go : (t : Bool) → between 1 12 m ≡ t → month_answer y m ≡ span_answer y a k
-    go true b =
-        let t = month_in y a m h b in
-        let w = month_of_test 2098 y m t in
-        let from = thermal_month_from y m w in
-        let to = thermal_month_to y m w in
-        let some = month_least (calendar_year y m) (calendar_month m) in
-        let f : span_fits y (first_of y a (Month m)) (last_of y a (Month m)) ≡ true =
-        span_fits_lem y (first_of y a (Month m)) (last_of y a (Month m))
-        (record { begins = omega (arith, from); ordered = omega (arith, month_days y m, some, to); ends = omega (arith, to) }) in
-        rw (e, h, t, b, f)
-    go false b = rw (e, arrival_year y a h, b)
+  pub month_span : (m : ℕ) → span_answer y a (Month m) ≡ month_answer y m
+  unfolding span_answer month_answer
+  month_span m = go (between 1 12 m) refl
+    where
+      go : (t : Bool) → between 1 12 m ≡ t → span_answer y a (Month m) ≡ month_answer y m
+      go true b =
+          let t = month_in y a m h b in
+          let w = month_of_test 2098 y m t in
+          let from = thermal_month_from y m w in
+          let to = thermal_month_to y m w in
+          let some = month_least (calendar_year y m) (calendar_month m) in
+          let f : span_fits y (first_of y a (Month m)) (last_of y a (Month m)) ≡ true =
+          span_fits_lem y (first_of y a (Month m)) (last_of y a (Month m))
+          (record { begins = omega (arith, from); ordered = omega (arith, month_days y m, some, to); ends = omega (arith, to) }) in
+          rw (h, t, b, f)
+      go false b = rw (arrival_year y a h, b)
 
-pub day_span_lem : (y a d : ℕ) (k : Product) → k ≡ Day d → arrives y a ≡ true → day_span y d ≡ span_answer y a k
-unfolding span_answer
-day_span_lem y a d k e h = rw (e, h, arrival_year y a h, le-leb d d (omega arith), and-true)
+  pub day_span_lem : (d : ℕ) → span_answer y a (Day d) ≡ then_some (in_thermal_year y d) (span d d)
+  unfolding span_answer
+  day_span_lem d = rw (h, arrival_year y a h, le-leb d d (omega arith), and-true) (then_some_lem (between (thermal_first y) (thermal_last y) d) (span d d))
+
+-- how `span_of` comes to its answer
+pub ruleset spans_by = (no_arrival, annual_span, month_span, day_span_lem)

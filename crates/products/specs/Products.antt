@@ -1,6 +1,6 @@
 -- Document 01, "The changing calls": "A request is annual, or for a numbered month, or for a numbered gas-day."
 -- Assumes nothing.
-use Rattle.std.specs.Prelude.{ℕ, Bool, true, not, ◌&&◌, ltb}
+use Rattle.std.specs.Prelude.{ℕ, Bool, true, not, ◌&&◌, ltb, Option}
 use Rattle.days.specs.Days.{between}
 use Rattle.calendar.specs.declared.thermal_years.Span.{Span}
 use Rattle.calendar.specs.ThermalYears.{thermal_month_first, thermal_month_last}
@@ -59,7 +59,7 @@ is_in_time y a (Day d) = ltb a d
 
 -- ---- the same for any numbers, also for those that earlier questions do not let pass
 -- the span of a product, where question 8 is answered yes and a month is one of the year's
-unfoldable pub span_answer : ℕ → ℕ → Product → Span
+unfoldable pub span_answer : ℕ → ℕ → Product → Option Span
 span_answer y a k = span_where (month_ok k && is_in_year y a k) (first_of y a k) (last_of y a k)
 
 -- question 9 as the calendar answers it, with no where it has no deadline. Of an arrival and a month that the questions before it let

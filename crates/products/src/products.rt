@@ -1,7 +1,6 @@
 // What can be requested, and for when.
 ghost use Rattle.std.specs.Prelude.{◌≡◌};
 ghost use Rattle.products.specs.Products.{kind_of, month_ok, is_offered, span_answer, time_answer};
-ghost use Rattle.products.specs.Steps.{day_span};
 
 use calendar::Span;
 use parts::Point;
@@ -27,7 +26,7 @@ pub struct Request {
 // Annual and monthly requests arrive by this working day of a month.
 const DEADLINE: u8 = 11;
 
-// The kind of the ledger line.
+// The kind of the ledger line. It is no conversion of the product by `From`, since the number leaves out which month or gas-day it is.
 pub fn line_kind(product: Product) -> u8
     ensures { result ≡ kind_of product }
 {
@@ -43,9 +42,8 @@ pub fn is_month_within_limits(product: Product) -> bool
     ensures { result ≡ month_ok product }
 {
     match product {
-        Product::Annual => true,
         Product::Month(month) => (1 <= month) & (month <= 12),
-        Product::Day(_) => true,
+        Product::Annual | Product::Day(_) => true,
     }
 }
 
@@ -55,32 +53,25 @@ pub fn is_offered(p: Point, product: Product) -> bool
 {
     match product {
         Product::Annual => true,
-        Product::Month(_) => !parts::is_direct(p),
-        Product::Day(_) => !parts::is_direct(p),
+        Product::Month(_) | Product::Day(_) => !p.is_direct(),
     }
-}
-
-// A gas-day of the year as a span.
-fn day_span(year: u16, day: u16) -> Span
-    ensures { result ≡ day_span year day }
-{
-    if calendar::in_thermal_year(year, day) {
-        return Span::Days(day, day);
-    }
-    Span::OutsideCalendar
 }
 
 // Question 8: the span of a product that arrives on a day, where that is answered yes and a month is one of the year's.
-pub fn span_of(year: u16, arrival: u16, product: Product) -> Span
+#[tactic(auto, using(crate::proofs::ProductLaws::spans_by))]
+pub fn span_of(year: u16, arrival: u16, product: Product) -> Option<Span>
     ensures { result ≡ span_answer year arrival product }
 {
     if !spans::is_arrival(year, arrival) {
-        return Span::OutsideCalendar;
+        return None;
     }
     match product {
         Product::Annual => spans::annual_span(year, arrival),
         Product::Month(month) => calendar::thermal_month(year, month),
-        Product::Day(day) => day_span(year, day),
+        Product::Day(day) => calendar::in_thermal_year(year, day).then_some(Span {
+            first: day,
+            last: day,
+        }),
     }
 }
 
