@@ -12,6 +12,7 @@ use Rattle.parts.specs.Accounts.{is_on_file}
 use Rattle.parts.specs.Answers.{Question, ◌asks◌, number_of}
 use Rattle.conferral.specs.declared.bookings.Grant.{Grant}
 use Rattle.conferral.specs.Bookings.{covers, charge_of}
+use Rattle.shares.specs.declared.batches.Batch.{Batch as LentBatch}
 
 -- "for one point and the whole year, 1 to 64 lines of user and asked amount"
 pub record Batch : Type 0 where
@@ -21,6 +22,10 @@ pub record Batch : Type 0 where
 
 abbrev pub batch : ℕ → List ℕ → List ℕ → Batch
 batch p us amounts = record { point = p; users = us; asked = amounts }
+
+-- the batch that is lent
+abbrev pub batch_in : LentBatch → Batch
+batch_in b = batch b.point b.users.now b.asked.now
 
 -- how many lines there are, and the user and the asked amount of line i, from 0 on
 abbrev pub lines_of : Batch → ℕ

@@ -1,6 +1,7 @@
 -- Terms of the contracts of private functions: how the code goes about it. No contract that a caller reads rests on them.
 -- Assumes nothing.
-use Rattle.std.specs.Prelude.{ℕ, ◌≤◌, ◌<◌, ◌≡◌, Bool, false, not, List, [], ◌∷◌, eqb, get_or, length}
+use Rattle.std.specs.Prelude.{ℕ, ◌≤◌, ◌<◌, ◌≡◌, Bool, false, not, List, [], ◌∷◌, eqb, get_or, length, sum_by}
+use Rattle.std.specs.List.{zip}
 use Rattle.parts.specs.declared.points.Point.{Point}
 use Rattle.parts.specs.declared.accounts.Account.{Account}
 use Rattle.parts.specs.Limits.{most_amount}
@@ -34,6 +35,10 @@ Passing numbers amounts = (i : ℕ) → i < length amounts → get_or numbers i 
 -- by lists: numbers has what the questions gave each line
 abbrev pub counted_in : List ℕ → List ℕ → ℕ → ℕ
 counted_in numbers amounts i = counted (get_or numbers i 0) (get_or amounts i 0)
+
+-- the same, added up over the two lists
+abbrev pub sum_in : List ℕ → List ℕ → ℕ
+sum_in numbers amounts = sum_by (λ (p : ℕ × ℕ). counted p.0 p.1) (zip numbers amounts)
 
 abbrev pub share_in : ℕ → ℕ → List ℕ → List ℕ → ℕ → ℕ
 share_in F S numbers amounts i = share_if F S (get_or numbers i 0) (get_or amounts i 0)

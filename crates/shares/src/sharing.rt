@@ -1,15 +1,16 @@
 // What each line of a batch gets: pro quota, rounded down.
-ghost use Rattle.std.specs.Prelude.{◌≡◌, ◌≤◌, length};
+//
+// What the questions answered to a line stays its number, 0 where it passed them: the list of numbers is lent by the host, and keeps it
+// from one step to the next.
+ghost use Rattle.std.specs.Prelude.{◌≡◌, ◌<◌, ◌≤◌, ◌^◌, length};
 ghost use Rattle.parts.specs.Limits.{most_amount};
-ghost use Rattle.amounts.specs.Ranges.{replaced, sum_below};
-ghost use Rattle.shares.specs.ShareLines.{most_lines};
+ghost use Rattle.amounts.specs.Ranges.{replaced};
 ghost use Rattle.shares.specs.Shares.{counted, pro_quota, share_if, number_if};
-ghost use Rattle.shares.specs.Steps.{counted_in, share_in, number_in, Passing};
+ghost use Rattle.shares.specs.Steps.{sum_in, share_in, number_in, Passing};
 
 use register::Refusal;
 
 // What counts of a line's asked amount in the sum, by the number that the questions gave the line.
-#[tactic(auto, using(crate::proofs::LoopLaws::counted_here))]
 fn counted_amount(number: u8, asked: u64) -> u64
     ensures { result ≡ counted number asked }
 {
@@ -21,16 +22,14 @@ fn counted_amount(number: u8, asked: u64) -> u64
 
 // The sum of the asked amounts of the lines whose number is 0.
 pub(crate) fn sum_asked(asked: &[u64], numbers: &[u8]) -> u64
-    requires { (length asked.now ≤ most_lines) × ((length numbers.now ≡ length asked.now) × Passing numbers.now asked.now) }
-    ensures { result ≡ sum_below (length asked.now) (counted_in numbers.now asked.now) }
+    requires { sum_in numbers.now asked.now < 2 ^ 64 }
+    ensures { result ≡ sum_in numbers.now asked.now }
 {
-    let mut sum: u64 = 0;
-    let mut i: usize = 0;
-    while i < asked.len() {
-        sum += counted_amount(numbers[i], asked[i]);
-        i += 1;
-    }
-    sum
+    numbers
+        .iter()
+        .zip(asked)
+        .map(|(number, asked)| counted_amount(*number, *asked))
+        .sum()
 }
 
 // What a line gets that asked for an amount within limits: all of it where the sum is free, and else its part of what is free.
@@ -60,12 +59,13 @@ fn number_if(number: u8, share: u32) -> u8
     ensures { result ≡ number_if number share }
 {
     if (number == 0) & (share == 0) {
-        return register::refusal_number(Refusal::NothingFree);
+        return u8::from(Refusal::NothingFree);
     }
     number
 }
 
 // The shares and the numbers of all lines, by the numbers that the questions gave them.
+#[tactic(auto, using(crate::proofs::LoopLaws::shares_here))]
 pub(crate) fn share_out(asked: &[u64], shares: &mut [u32], numbers: &mut [u8], free: u32, sum: u64)
     requires { (length shares.old ≡ length asked.now) × ((length numbers.old ≡ length asked.now) × Passing numbers.old
         asked.now) }
@@ -74,12 +74,11 @@ pub(crate) fn share_out(asked: &[u64], shares: &mut [u32], numbers: &mut [u8], f
     ensures numbers { numbers.new ≡ replaced numbers.old 0 (length asked.now)
         (number_in free sum numbers.old asked.now) }
 {
-    let mut i: usize = 0;
-    while i < asked.len() {
+    // By place: of what is written through a `zip` of `iter_mut` nothing is known to a proof, and the old numbers are asked for.
+    for i in 0..asked.len() {
         let number = numbers[i];
         let share = share_if(number, free, sum, asked[i]);
         shares[i] = share;
         numbers[i] = number_if(number, share);
-        i += 1;
     }
 }

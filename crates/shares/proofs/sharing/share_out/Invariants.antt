@@ -2,18 +2,10 @@
 -- the questions still.
 -- Assumes nothing.
 use mathlib.Core.Path.{◌≡◌}
-use Prim.Native.Nat.{◌-◌, ◌≤◌}
-use lib.ListN.{length}
 use Rattle.amounts.specs.Ranges.{replaced}
 use Rattle.shares.specs.Steps.{share_in, number_in}
 use Rattle.shares.proofs.sharing.share_out.Given as goal
 
 abbrev pub invariant-loop-i : goal.invariant-loop-i
-invariant-loop-i l = (l.i ≤ length l.asked)
-    × ((length l.shares ≡ length l.initial.shares)
-    × ((length l.numbers ≡ length l.initial.numbers)
-    × ((l.shares ≡ replaced l.initial.shares 0 l.i (share_in l.free l.sum l.initial.numbers l.asked))
-    × (l.numbers ≡ replaced l.initial.numbers 0 l.i (number_in l.free l.sum l.initial.numbers l.asked)))))
-
-abbrev pub decreases-loop-i : goal.decreases-loop-i
-decreases-loop-i l = length l.asked - l.i
+invariant-loop-i l = (l.shares ≡ replaced l.initial.shares 0 l.i (share_in l.free l.sum l.initial.numbers l.asked))
+    × (l.numbers ≡ replaced l.initial.numbers 0 l.i (number_in l.free l.sum l.initial.numbers l.asked))

@@ -1,0 +1,26 @@
+// The lines of a batch, as they are lent.
+ghost use Rattle.std.specs.Prelude.{◌≡◌, length};
+ghost use Rattle.shares.specs.ShareLines.{lengths_fit};
+
+// A batch has at most so many lines.
+pub const MOST_LINES: usize = 64;
+
+// A batch at a point: the user and the asked amount of each line, in two lists of equal length. The lists for shares and numbers stand
+// beside it, since they are written.
+#[derive(Clone, Copy)]
+pub struct Batch<'a> {
+    pub point: u8,
+    pub users: &'a [u8],
+    pub asked: &'a [u64],
+}
+
+impl Batch<'_> {
+    // Question 2 of the lengths of the four lists: the lists for shares and numbers have so many places.
+    pub fn lengths_fit(self, shares: usize, numbers: usize) -> bool
+        ensures { result ≡ lengths_fit (length self.entry.users.now) (length self.entry.asked.now) shares numbers }
+    {
+        let lines = self.users.len();
+        ((1 <= lines) & (lines <= MOST_LINES))
+            & ((self.asked.len() == lines) & (shares == lines) & (numbers == lines))
+    }
+}
