@@ -1,20 +1,19 @@
 -- Laws of the answers: how the answer on an arrival is put together from its deadline.
 -- Assumes nothing.
 use Prim.Native.Nat.{ℕ, ◌≤◌, ◌<◌}
-use mathlib.Core.Bool.{Bool, true, false, cond, ◌&&◌}
-use mathlib.Core.Path.{◌≡◌, refl}
-use lib.Dec.{leb}
+use mathlib.Core.Bool.{Bool, cond, ◌&&◌}
+use mathlib.Core.Path.{◌≡◌}
 use borrow.Author.Tests.{le-leb, lt-leb}
-use Rattle.std.specs.Prelude.{Option, Some, None}
-use Rattle.calendar.specs.declared.deadlines.Timeliness.TheVariants.{InTime, Late}
-use Rattle.days.specs.Days.{last_day, between, is_month, date_of, year_before, month_before}
-use Rattle.calendar.specs.ThermalYears.{is_thermal_month, calendar_year, calendar_month}
+use Rattle.std.specs.Prelude.{Some, None}
+use Rattle.days.specs.declared.dates.Month.{Month}
+use Rattle.days.specs.Days.{last_day, between, date_of, year_before, month_before}
+use Rattle.calendar.specs.ThermalYears.{is_thermal_month}
 use Rattle.calendar.specs.Deadlines.{own_deadline, preceding_deadline}
 use Rattle.working_days.specs.Answers.{nth_answer}
-use Rattle.calendar.specs.Answers.{preceding_day, timely, own_answer, preceding_answer}
+use Rattle.calendar.specs.Answers.{calendar_answer, preceding_day, timely, own_answer, preceding_answer}
 use Rattle.days.proofs.Ranges.{month_of_test, is_month_lem}
 use Rattle.calendar.proofs.DeadlineLaws.{own_month, preceding_month}
-use Rattle.calendar.proofs.SpanLaws.{chosen, unchosen}
+use Rattle.calendar.proofs.SpanLaws.{chosen, unchosen, month_named}
 
 -- a deadline that a test lets stand, and an arrival compared with it
 module _ {A B : Type 0} (f : A → B) (b : Bool) (d : A) where
@@ -54,9 +53,13 @@ pub preceding_outside : (a y k n : ℕ) → last_day < a → None ≡ preceding_
 unfolding preceding_answer
 preceding_outside a y k n h = rw (lt-leb a last_day h)
 
--- the n-th working day of the month before month k, by that month
-pub preceding_day_lem : (y k n x m : ℕ) → is_thermal_month y k ≡ true → year_before (calendar_year y k) (calendar_month k) ≡ x → month_before (calendar_month k) ≡ m → nth_answer x m n ≡ preceding_day y k n
-unfolding nth_answer preceding_day preceding_deadline
-preceding_day_lem y k n x m t p q =
-    let w : is_month x m ≡ true = rw (p, q) at (is_month_lem _ _ (preceding_month y k (month_of_test 2098 y k t))) in
-    rw (t, p, q, w)
+-- the n-th working day of the month before month k, by the month of the calendar that this one is
+pub preceding_answered : (y k n : ℕ) (m : Month) → calendar_answer y k ≡ Some m → nth_answer (year_before m.year m.month) (month_before m.month) n ≡ preceding_day y k n
+unfolding calendar_answer nth_answer preceding_day preceding_deadline
+preceding_answered y k n m h =
+    let r = chosen (is_thermal_month y k) (month_named y k) m h in
+    rw (r.0, r.1, is_month_lem _ _ (preceding_month y k (month_of_test 2098 y k r.0)))
+
+pub preceding_unanswered : (y k n : ℕ) → calendar_answer y k ≡ None → None ≡ preceding_day y k n
+unfolding calendar_answer preceding_day
+preceding_unanswered y k n h = rw (unchosen (is_thermal_month y k) (month_named y k) h)

@@ -1,6 +1,6 @@
 -- Laws of the first of the next month, and of the working days that are deadlines.
 -- Assumes nothing.
-use Prim.Native.Nat.{ℕ, ◌+◌, ◌-◌, ◌≤◌, ◌<◌}
+use Prim.Native.Nat.{ℕ, ◌+◌, ◌-◌, ◌≤◌, ◌<◌, min}
 use mathlib.Core.Bool.{Bool, true, false, cond}
 use mathlib.Core.Path.{◌≡◌, refl, sym, ap, ◌∙◌}
 use native.Mathlib.Omega.{arith}
@@ -9,8 +9,8 @@ use borrow.Author.Tests.{ltb-true, ltb-false, lt-ltb, le-ltb, leb-true, leb-fals
 use Rattle.days.specs.Days.{last_day, month_length, days_before, month_start, day_number, date, date_from, year_of, date_of, year_after, month_after, year_before, month_before}
 use Rattle.calendar.specs.ThermalYears.{thermal_first, thermal_last, calendar_year, calendar_month, thermal_month_first}
 use Rattle.calendar.specs.Deadlines.{next_first, own_deadline, preceding_deadline}
-use Rattle.days.proofs.Ranges.{Within, Month, ThermalMonth, Valid, le_cond}
-use Rattle.days.proofs.DateLaws.{day_date, date_valid, date_year_last, month_least, month_most, month_next, month_mono, month_after_lem, month_of_lem, january, year_end}
+use Rattle.days.proofs.Ranges.{Within, Month, ThermalMonth, Valid, cond_le, le_cond}
+use Rattle.days.proofs.DateLaws.{date_from_lem, day_date, date_valid, date_year_last, month_least, month_most, month_next, month_mono, month_after_lem, month_of_lem, january, year_end}
 use Rattle.working_days.proofs.WorkingDayLaws.{NthWorkingDay, nth_working_day_lem}
 use Rattle.calendar.proofs.ThermalYearLaws.{thermal_next, from_january, calendar_month_lem}
 
@@ -32,6 +32,15 @@ next_same_year a h = rw (lt-ltb (date_of a).month 12 h)
 pub next_january : (a : ℕ) → 12 ≤ (date_of a).month → next_first a ≡ month_start ((date_of a).year + 1) 1
 unfolding next_first
 next_january a h = rw (le-ltb (date_of a).month 12 h)
+
+-- by the month after that of the day, which no day of 16 bits has so late that its year would be too large
+pub next_named : (a y m : ℕ) → a ≤ 65535 → y ≡ min (year_after (date_of a).year (date_of a).month) 65535 → m ≡ month_after (date_of a).month → month_start y m ≡ next_first a
+unfolding next_first year_of
+next_named a y m h e f =
+    let small : (date_of a).year ≤ 2180 = omega (arith, (date_from_lem a).year_is) in
+    let least : year_after (date_of a).year (date_of a).month ≤ 65535 = cond_le (ltb (date_of a).month 12) _ _ 65535 (omega arith) (omega arith) in
+    let p : min (year_after (date_of a).year (date_of a).month) 65535 ≡ year_after (date_of a).year (date_of a).month = omega arith in
+    rw (e, p, f)
 
 -- the first of the next month comes after the days of the month
 pub next_is : (a : ℕ) → next_first a ≡ month_start (date_of a).year (date_of a).month + month_length (date_of a).year (date_of a).month

@@ -7,8 +7,8 @@ use native.Mathlib.Omega.{arith}
 use lib.Dec.{leb}
 use borrow.Author.Tests.{leb-true, leb-false, le-leb, lt-leb}
 use Rattle.days.specs.Days.{last_day, leap, month_length, days_before, year_start, month_start}
-use Rattle.calendar.specs.ThermalYears.{thermal_first, thermal_last, calendar_year, calendar_month, thermal_month_first, thermal_month_last}
-use Rattle.days.proofs.Ranges.{Within, Month, ThermalMonth, le_cond}
+use Rattle.calendar.specs.ThermalYears.{is_thermal_year, is_thermal_month, thermal_first, thermal_last, calendar_year, calendar_month, thermal_month_first, thermal_month_last}
+use Rattle.days.proofs.Ranges.{Within, Month, ThermalMonth, le_cond, within, month_of_test}
 use Rattle.days.proofs.DateLaws.{month_least, month_next, month_mono, month_after_lem, january, year_end, year_next}
 
 september : (y : ℕ) → month_length y 9 ≡ 30
@@ -45,6 +45,21 @@ thermal_order y h =
 pub thermal_last_lem : (y : ℕ) → Within 2000 2098 y → thermal_last y ≤ last_day
 thermal_last_lem y w =
     omega (arith, w.from, w.to, thermal_next y, month_mono (y + 1) 10 13 (omega arith) (omega arith), year_end (y + 1) (omega (arith, w.from)))
+
+-- the ends of a year that is asked about lie in the calendar, and a month of a thermal year in a year within limits
+pub record YearEnds (y : ℕ) : Type 0 where
+  pub year : y ≤ 2098
+  pub first : thermal_first y ≤ last_day
+  pub last : thermal_last y ≤ last_day
+
+pub year_ends : (y : ℕ) → is_thermal_year y ≡ true → YearEnds y
+year_ends y h =
+    let w = within 2000 2098 y h in
+    let l = thermal_last_lem y w in
+    record { year = w.to; first = omega (arith, l, thermal_order y w.from); last = l }
+
+pub month_year : (y k : ℕ) → is_thermal_month y k ≡ true → y ≤ 2098
+month_year y k h = (month_of_test 2098 y k h).year.to
 
 -- its months 1 to 3 are October to December, and 4 to 12 January to September of the next year
 pub autumn : (y k : ℕ) → k ≤ 3 → (calendar_year y k ≡ y) × (calendar_month k ≡ k + 9)

@@ -2,11 +2,12 @@
 -- `None`, and so no function answers it with a wrong date.
 -- Assumes nothing.
 use Rattle.std.specs.Prelude.{ℕ, cond, ◌&&◌, leb, Option, Some, None}
+use Rattle.days.specs.declared.dates.Month.{Month}
 use Rattle.calendar.specs.declared.thermal_years.Span.{Span}
 use Rattle.calendar.specs.declared.deadlines.Timeliness.{Timeliness}
 use Rattle.calendar.specs.declared.deadlines.Timeliness.TheVariants.{InTime, Late}
 use Rattle.days.specs.Days.{between, in_calendar, is_month, month_length, month_start, day_number}
-use Rattle.calendar.specs.ThermalYears.{span, is_thermal_year, is_thermal_month, thermal_first, thermal_last, thermal_month_first, thermal_month_last}
+use Rattle.calendar.specs.ThermalYears.{span, is_thermal_year, is_thermal_month, thermal_first, thermal_last, calendar_year, calendar_month, thermal_month_first, thermal_month_last}
 use Rattle.calendar.specs.Deadlines.{next_first, preceding_deadline, in_time_own, in_time_preceding}
 
 -- the day with a number, where the calendar has it
@@ -21,6 +22,10 @@ next_first_answer a = day_in (next_first a)
 -- the first and the last day of a thermal year
 unfoldable pub year_answer : ℕ → Option Span
 year_answer y = cond (is_thermal_year y) (Some (span (thermal_first y) (thermal_last y))) None
+
+-- month k of a thermal year as a month of the calendar
+unfoldable pub calendar_answer : ℕ → ℕ → Option Month
+calendar_answer y k = cond (is_thermal_month y k) (Some (record { year = calendar_year y k; month = calendar_month k })) None
 
 -- the first and the last day of a month of the calendar
 unfoldable pub span_of_month : ℕ → ℕ → Option Span

@@ -2,8 +2,8 @@
 ghost use Rattle.std.specs.Prelude.{◌≡◌};
 ghost use Rattle.calendar.specs.Answers.{day_in, next_first_answer, preceding_day, timely, own_answer, preceding_answer};
 
-use crate::thermal_years::is_thermal_month;
-use days::{LAST_DAY, date_at, month_start};
+use crate::thermal_years::calendar_month;
+use days::{LAST_DAY, date_at};
 use working_days::nth_working_day;
 
 // Whether an arrival is in time.
@@ -14,6 +14,7 @@ pub enum Timeliness {
 }
 
 // The gas-day with a number, where the calendar has it.
+#[tactic(auto, unfolding(crate::specs::Answers::day_in))]
 fn in_calendar(number: u32) -> Option<u16>
     ensures { result ≡ day_in number }
 {
@@ -27,11 +28,7 @@ fn in_calendar(number: u32) -> Option<u16>
 pub fn next_first(day: u16) -> Option<u16>
     ensures { result ≡ next_first_answer day }
 {
-    let d = date_at(day);
-    if d.month < 12 {
-        return in_calendar(month_start(d.year, d.month + 1));
-    }
-    in_calendar(month_start(d.year + 1, 1))
+    in_calendar(date_at(day).month().next().start())
 }
 
 // Whether an arrival is in time for a deadline: the day itself is in time.
@@ -52,8 +49,7 @@ pub fn in_time_own_month(arrival: u16, n: u8) -> Option<Timeliness>
     if LAST_DAY < arrival {
         return None;
     }
-    let d = date_at(arrival);
-    let deadline = nth_working_day(d.year, d.month, n)?;
+    let deadline = nth_working_day(date_at(arrival).month(), n)?;
     Some(in_time_by(arrival, deadline))
 }
 
@@ -61,13 +57,7 @@ pub fn in_time_own_month(arrival: u16, n: u8) -> Option<Timeliness>
 fn preceding_deadline(year: u16, month: u8, n: u8) -> Option<u16>
     ensures { result ≡ preceding_day year month n }
 {
-    if !is_thermal_month(year, month) {
-        return None;
-    }
-    if month <= 4 {
-        return nth_working_day(year, month + 8, n);
-    }
-    nth_working_day(year + 1, month - 4, n)
+    nth_working_day(calendar_month(year, month)?.previous(), n)
 }
 
 // Whether an arrival is in time by the n-th working day, for n from 1 to 18, of the month before a month of a thermal year.

@@ -1,9 +1,9 @@
 // Thermal years, from 1 October to 30 September, and their months.
 ghost use Rattle.std.specs.Prelude.{◌≡◌};
 ghost use Rattle.calendar.specs.ThermalYears.{is_thermal_year, in_thermal_year, is_thermal_month};
-ghost use Rattle.calendar.specs.Answers.{span_of_month, year_answer, month_answer};
+ghost use Rattle.calendar.specs.Answers.{calendar_answer, span_of_month, year_answer, month_answer};
 
-use days::{day_number, is_month, month_length, month_start};
+use days::{Date, Month};
 
 // A span of gas-days, by its first and its last. Where the first is after the last, no day lies in it.
 #[derive(Clone, Copy, PartialEq, Eq)]
@@ -30,26 +30,53 @@ pub fn is_thermal_year(year: u16) -> bool
     (2000 <= year) & (year <= 2098)
 }
 
-pub fn is_thermal_month(year: u16, month: u8) -> bool
+fn is_thermal_month(year: u16, month: u8) -> bool
     ensures { result ≡ is_thermal_month year month }
 {
     is_thermal_year(year) & ((1 <= month) & (month <= 12))
 }
 
+// A month of a thermal year as one of the calendar: month 1 is October.
+#[tactic(auto, using(crate::proofs::ThermalYearLaws::month_year), unfolding(crate::specs::Answers::calendar_answer, crate::specs::ThermalYears::calendar_year, crate::specs::ThermalYears::calendar_month))]
+pub(crate) fn calendar_month(year: u16, month: u8) -> Option<Month>
+    ensures { result ≡ calendar_answer year month }
+{
+    if !is_thermal_month(year, month) {
+        return None;
+    }
+    if month <= 3 {
+        return Some(Month {
+            year,
+            month: month + 9,
+        });
+    }
+    Some(Month {
+        year: year + 1,
+        month: month - 3,
+    })
+}
+
 // The first and the last day of a thermal year.
+#[tactic(auto, using(crate::proofs::ThermalYearLaws::year_ends), unfolding(crate::specs::Answers::year_answer))]
 pub fn thermal_year(year: u16) -> Option<Span>
     ensures { result ≡ year_answer year }
 {
     if is_thermal_year(year) {
+        let first = Month { year, month: 10 };
+        let last = Month {
+            year: year + 1,
+            month: 9,
+        };
         return Some(Span {
-            first: day_number(year, 10, 1) as u16,
-            last: day_number(year + 1, 9, 30) as u16,
+            first: first.date(1).number() as u16,
+            last: last.date(30).number() as u16,
         });
     }
     None
 }
 
 // Whether a gas-day lies in a thermal year.
+#[tactic(auto, using(crate::proofs::SpanLaws::day_tested), unfolding(crate::specs::Answers::year_answer))]
 pub fn in_thermal_year(year: u16, day: u16) -> bool
     ensures { result ≡ in_thermal_year year day }
 {
@@ -60,29 +87,23 @@ pub fn in_thermal_year(year: u16, day: u16) -> bool
 }
 
 // The first and the last day of a month of the calendar.
-fn month_span(year: u16, month: u8) -> Option<Span>
-    ensures { result ≡ span_of_month year month }
+#[tactic(auto, using(crate::proofs::SpanLaws::month_ends), unfolding(crate::specs::Answers::span_of_month))]
+fn month_span(month: Month) -> Option<Span>
+    ensures { result ≡ span_of_month month.year month.month }
 {
-    if is_month(year, month) {
-        let first = month_start(year, month);
-        let len = month_length(year, month) as u32;
-        return Some(Span {
-            first: first as u16,
-            last: (first + (len - 1)) as u16,
-        });
+    if !month.is_in_calendar() {
+        return None;
     }
-    None
+    Some(Span {
+        first: month.start() as u16,
+        last: month.date(month.length()).number() as u16,
+    })
 }
 
 // The first and the last day of a month of a thermal year: month 1 is October.
+#[tactic(auto, using(crate::proofs::SpanLaws::month_answered))]
 pub fn thermal_month(year: u16, month: u8) -> Option<Span>
     ensures { result ≡ month_answer year month }
 {
-    if !is_thermal_month(year, month) {
-        return None;
-    }
-    if month <= 3 {
-        return month_span(year, month + 9);
-    }
-    month_span(year + 1, month - 3)
+    month_span(calendar_month(year, month)?)
 }

@@ -19,6 +19,14 @@ pub month_least : (y m : ℕ) → 28 ≤ month_length y m
 unfolding month_length
 month_least y m = search (le_cond, lit≤, tt) depth 12
 
+-- the days of the months before month m, and of month m with them
+pub days_with : (y m sum days : ℕ) → 1 ≤ m → sum ≡ days_before y (m - 1) → days ≡ month_length y m → sum + days ≡ days_before y (m + 1 - 1)
+unfolding days_before
+days_with y m sum days h e f =
+    let p : suc (m - 1) ≡ m = omega arith in
+    let q : m + 1 - 1 ≡ suc (m - 1) = omega arith in
+    rw (q, e, f, p) refl
+
 -- in a year, the next month starts after the month's days
 pub month_next : (y m : ℕ) → 1 ≤ m → month_start y (m + 1) ≡ month_start y m + month_length y m
 unfolding month_start days_before

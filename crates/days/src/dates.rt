@@ -1,6 +1,6 @@
 // Days, months, years and dates.
 ghost use Rattle.std.specs.Prelude.{◌≡◌, ◌<◌, ◌^◌};
-ghost use Rattle.days.specs.Days.{leap, month_length, year_start, days_before, month_start, day_number, date_of, is_year, is_month, is_date, moves_on};
+ghost use Rattle.days.specs.Days.{leap, month_length, year_start, days_before, month_start, date_of, is_year, is_month, is_date, moves_on};
 ghost use Rattle.days.specs.Answers.{date_answer, day_answer, next_date_answer};
 
 use std::fmt;
@@ -17,6 +17,13 @@ pub struct Date {
     pub day: u8,
 }
 
+// The last date of the calendar.
+const LAST_DATE: Date = Date {
+    year: 2099,
+    month: 12,
+    day: 31,
+};
+
 // As 2024-03-31.
 impl fmt::Display for Date {
     ghost use Rattle.std.specs.Prelude.{Some};
@@ -27,6 +34,13 @@ impl fmt::Display for Date {
     fn fmt<W: fmt::Write>(&self, f: &mut fmt::Formatter<W>) -> fmt::Result {
         write!(f, "{}-{:02}-{:02}", self.year, self.month, self.day)
     }
+}
+
+// A month by its year and its number in the year, 1 for January. It need not exist.
+#[derive(Clone, Copy, PartialEq, Eq)]
+pub struct Month {
+    pub year: u16,
+    pub month: u8,
 }
 
 fn is_leap(year: u16) -> bool
@@ -41,64 +55,123 @@ pub fn is_year(year: u16) -> bool
     (2000 <= year) & (year <= 2099)
 }
 
-pub fn is_month(year: u16, month: u8) -> bool
-    ensures { result ≡ is_month year month }
-{
-    is_year(year) & ((1 <= month) & (month <= 12))
-}
-
-pub fn month_length(year: u16, month: u8) -> u8
-    ensures { result ≡ month_length year month }
-{
-    match month {
-        2 => { if is_leap(year) { 29 } else { 28 } }
-        4 | 6 | 9 | 11 => 30,
-        _ => 31,
-    }
-}
-
 fn year_start(year: u16) -> u32
     ensures value { result ≡ year_start year }
     ensures upper_bound { result < 2 ^ 25 }
 {
-    if year < 2000 {
-        return 0;
-    }
     let y = year as u32;
-    365 * (y - 2000) + (y - 1997) / 4
+    365 * y.saturating_sub(2000) + y.saturating_sub(1997) / 4
 }
 
-// The days of the first months of a year.
-fn days_before(year: u16, months: u8) -> u32
-    ensures value { result ≡ days_before year months }
-    ensures upper_bound { result < 2 ^ 16 }
-{
-    let mut sum: u32 = 0;
-    for k in 0..months {
-        sum += month_length(year, k + 1) as u32;
+impl Month {
+    ghost use Rattle.std.specs.Prelude.{min, ◌-◌};
+    ghost use Rattle.days.specs.Days.{date, year_after, month_after, year_before, month_before};
+
+    pub fn is_in_calendar(self) -> bool
+        ensures { result ≡ is_month self.year self.month }
+    {
+        is_year(self.year) & ((1 <= self.month) & (self.month <= 12))
     }
-    sum
+
+    #[tactic(auto, unfolding(crate::specs::Days::month_length))]
+    pub fn length(self) -> u8
+        ensures { result ≡ month_length self.year self.month }
+    {
+        match self.month {
+            2 => { if is_leap(self.year) { 29 } else { 28 } }
+            4 | 6 | 9 | 11 => 30,
+            _ => 31,
+        }
+    }
+
+    // The days of the months of the year before it.
+    fn days_before(self) -> u32
+        ensures value { result ≡ days_before self.year (self.month - 1) }
+        ensures upper_bound { result < 2 ^ 16 }
+    {
+        let mut sum: u32 = 0;
+        for month in 1..self.month {
+            let year = self.year;
+            sum += Month { year, month }.length() as u32;
+        }
+        sum
+    }
+
+    // The number of its first day.
+    #[tactic(auto, unfolding(crate::specs::Days::month_start))]
+    pub fn start(self) -> u32
+        ensures value { result ≡ month_start self.year self.month }
+        ensures upper_bound { result < 2 ^ 26 }
+    {
+        year_start(self.year) + self.days_before()
+    }
+
+    // A day of it, by its number in the month.
+    pub fn date(self, day: u8) -> Date
+        ensures { result ≡ date self.year self.month day }
+    {
+        let Month { year, month } = self;
+        Date { year, month, day }
+    }
+
+    // The month after it. No year comes after the last of its type.
+    pub fn next(self) -> Month
+        ensures year { result.year ≡ min (year_after self.year self.month) 65535 }
+        ensures month { result.month ≡ month_after self.month }
+    {
+        if self.month < 12 {
+            let month = self.month + 1;
+            return Month { month, ..self };
+        }
+        Month {
+            year: self.year.saturating_add(1),
+            month: 1,
+        }
+    }
+
+    // The month before it.
+    pub fn previous(self) -> Month
+        ensures year { result.year ≡ year_before self.year self.month }
+        ensures month { result.month ≡ month_before self.month }
+    {
+        if 1 < self.month {
+            let month = self.month - 1;
+            return Month { month, ..self };
+        }
+        Month {
+            year: self.year.saturating_sub(1),
+            month: 12,
+        }
+    }
 }
 
-pub fn month_start(year: u16, month: u8) -> u32
-    ensures value { result ≡ month_start year month }
-    ensures upper_bound { result < 2 ^ 26 }
-{
-    if month == 0 {
-        return year_start(year) + days_before(year, 0);
-    }
-    year_start(year) + days_before(year, month - 1)
-}
+impl Date {
+    ghost use Rattle.days.specs.Days.{day_of};
 
-pub fn day_number(year: u16, month: u8, day: u8) -> u32
-    ensures value { result ≡ day_number year month day }
-    ensures upper_bound { result < 2 ^ 27 }
-{
-    let first = month_start(year, month);
-    if day == 0 {
-        return first;
+    // The month that the date is in.
+    pub fn month(self) -> Month
+        ensures year { result.year ≡ self.year }
+        ensures month { result.month ≡ self.month }
+    {
+        Month {
+            year: self.year,
+            month: self.month,
+        }
     }
-    first + (day as u32 - 1)
+
+    // The number of the day, also of a date that lies outside the calendar or does not exist.
+    pub fn number(self) -> u32
+        ensures value { result ≡ day_of self }
+        ensures upper_bound { result < 2 ^ 27 }
+    {
+        self.month().start() + (self.day as u32).saturating_sub(1)
+    }
+
+    fn exists(self) -> bool
+        ensures { result ≡ is_date self }
+    {
+        self.month().is_in_calendar() & ((1 <= self.day) & (self.day <= self.month().length()))
+    }
 }
 
 // The date of any day number, also of one past the calendar's end.
@@ -109,7 +182,7 @@ pub fn date_at(day: u16) -> Date
     let year = (2000 + 4 * n / 1461) as u16;
     let mut rest = n - year_start(year);
     for month in 1..12 {
-        let len = month_length(year, month) as u32;
+        let len = Month { year, month }.length() as u32;
         if rest < len {
             return Date {
                 year,
@@ -136,22 +209,13 @@ pub fn date_of(day: u16) -> Option<Date>
     Some(date_at(day))
 }
 
-fn is_date(date: Date) -> bool
-    ensures { result ≡ is_date date }
-{
-    let y = date.year;
-    let m = date.month;
-    let d = date.day;
-    let len = month_length(y, m);
-    is_year(y) & (((1 <= m) & (m <= 12)) & ((1 <= d) & (d <= len)))
-}
-
 // The gas-day of a date.
+#[tactic(auto, using(crate::proofs::AnswerLaws::day_of_date), unfolding(crate::specs::Answers::day_answer))]
 pub fn day_of(date: Date) -> Option<u16>
     ensures { result ≡ day_answer date }
 {
-    if is_date(date) {
-        return Some(day_number(date.year, date.month, date.day) as u16);
+    if date.exists() {
+        return Some(date.number() as u16);
     }
     None
 }
@@ -160,35 +224,20 @@ pub fn day_of(date: Date) -> Option<u16>
 fn moves_on(date: Date) -> bool
     ensures { result ≡ moves_on date }
 {
-    let y = date.year;
-    let m = date.month;
-    let d = date.day;
-    is_date(date) & !((y == 2099) & ((m == 12) & (d == 31)))
+    date.exists() & (date != LAST_DATE)
 }
 
 // The date one gas-day later.
+#[tactic(auto, using(crate::proofs::AnswerLaws::year_moved_on), unfolding(crate::specs::Answers::next_date_answer, crate::specs::Days::day_after))]
 pub fn next_date(date: Date) -> Option<Date>
     ensures { result ≡ next_date_answer date }
 {
-    let y = date.year;
-    let m = date.month;
-    let d = date.day;
     if !moves_on(date) {
         return None;
     }
-    if d < month_length(y, m) {
-        return Some(Date { day: d + 1, ..date });
+    if date.day < date.month().length() {
+        let day = date.day + 1;
+        return Some(Date { day, ..date });
     }
-    if m < 12 {
-        return Some(Date {
-            month: m + 1,
-            day: 1,
-            ..date
-        });
-    }
-    Some(Date {
-        year: y + 1,
-        month: 1,
-        day: 1,
-    })
+    Some(date.month().next().date(1))
 }

@@ -7,7 +7,4 @@
 
 mod dates;
 
-pub use dates::{
-    Date, LAST_DAY, date_at, date_of, day_number, day_of, is_month, is_year, month_length,
-    month_start, next_date,
-};
+pub use dates::{Date, LAST_DAY, Month, date_at, date_of, day_of, is_year, next_date};

@@ -2,7 +2,7 @@
 ghost use Rattle.std.specs.Prelude.{◌≡◌};
 ghost use Rattle.parts.specs.Points.{is_open, is_direct, point_ok};
 
-use crate::limits::{MOST_AMOUNT, MOST_RATE};
+use crate::limits::{MOST_RATE, is_amount};
 
 // Kind 0 is closed, 1 direct, 2 thermoelectric. The total is in Sm3 a day; the rate is for each Sm3/day and gas-day, in millionths
 // of a euro.
@@ -34,7 +34,7 @@ impl Point {
     {
         (self.kind == 0) & (self.total == 0) & (self.rate == 0)
             | ((1 <= self.kind) & (self.kind <= 2))
-                & ((1 <= self.total) & (self.total <= MOST_AMOUNT))
+                & is_amount(self.total as u64)
                 & (self.rate <= MOST_RATE)
     }
 }

@@ -3,6 +3,7 @@ ghost use Rattle.std.specs.Prelude.{◌≡◌};
 ghost use Rattle.parts.specs.Registers.{blank_register};
 
 use crate::accounts::Account;
+use crate::limits::{POINTS, USERS};
 use crate::points::Point;
 
 // `lines` is how many lines of the ledger are used.
@@ -10,8 +11,8 @@ use crate::points::Point;
 #[derive(Clone, Copy)]
 pub struct Register {
     pub year: u16,
-    pub points: [Point; 32],
-    pub accounts: [Account; 64],
+    pub points: [Point; POINTS],
+    pub accounts: [Account; USERS],
     pub lines: u16,
 }
 
@@ -29,8 +30,8 @@ pub fn blank(year: u16) -> Register
         guarantee: 0,
         commitment: 0,
     };
-    let points = [closed; 32];
-    let accounts = [absent; 64];
+    let points = [closed; POINTS];
+    let accounts = [absent; USERS];
     Register {
         year,
         points,

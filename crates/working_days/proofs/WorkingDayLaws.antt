@@ -2,18 +2,27 @@
 -- its 1,200 months.
 -- Assumes nothing.
 use Prim.Native.Nat.{ℕ, zero, suc, ◌+◌, ◌-◌, ◌*◌, ◌/◌, ◌%◌, ◌≤◌, ◌<◌}
-use mathlib.Core.Bool.{Bool, true, false}
+use mathlib.Core.Bool.{Bool, true, false, ◌&&◌, ◌||◌}
 use mathlib.Core.Path.{◌≡◌, refl, ap, ◌∙◌}
 use mathlib.Core.List.{◌∷◌}
 use native.Mathlib.Omega.{arith}
 use lib.Dec.{leb, ltb, eqb, T, leb→le, eqb→eq}
 use lib.ListN.{length, get_or}
-use borrow.Author.Tests.{ltb-true, ltb-false}
-use Rattle.days.specs.Days.{last_day, month_length, days_before, month_start, weekday, date, date_of}
+use borrow.Author.Tests.{ltb-true, ltb-false, eqb-true}
+use Rattle.days.specs.Days.{last_day, between, is_year, is_month, month_length, days_before, month_start, weekday, date, date_of}
 use Rattle.working_days.specs.WorkingDays.{gauss_a, gauss_b, gauss_c, gauss_d, gauss_e, week_earlier, easter_offset, easter_sunday, fixed_holiday, working, working_day, keep_if, working_from, working_days, working_count, nth_of_month, nth_working_day}
 use Rattle.working_days.proofs.Every.{every, at}
-use Rattle.days.proofs.Ranges.{Within, Month, cond_le}
-use Rattle.days.proofs.DateLaws.{month_least, month_next, month_mono, month_in, month_of_lem, year_end}
+use Rattle.days.proofs.Ranges.{Within, Month, cond_le, within, month_of_test, and_left, and_right}
+use Rattle.days.proofs.DateLaws.{month_least, month_most, month_next, month_mono, month_in, month_of_lem, year_end}
+
+-- in an exception of the rule d is 28 or 29, so that a week can be taken away
+pub week_fits : (a d e : ℕ) → week_earlier a d e ≡ true → 7 ≤ d
+week_fits a d e t = go (eqb d 29) (eqb d 28) refl refl t
+  where
+    go : (p q : Bool) → eqb d 29 ≡ p → eqb d 28 ≡ q → ((p && eqb e 6) || (q && (eqb e 6 && ltb 10 a))) ≡ true → 7 ≤ d
+    go true q h k t = omega (arith, eqb-true d 29 h)
+    go false true h k t = omega (arith, eqb-true d 28 k)
+    go false false h k t = let z : ◌≡◌ {A = ℕ} 0 1 = cc in omega arith
 
 -- Easter is at most 35 days after 22 March
 pub easter_near : (y : ℕ) → easter_offset y ≤ 35
@@ -24,6 +33,9 @@ easter_near y = cond_le (week_earlier (gauss_a y) (gauss_d y) (gauss_e y)) _ _ 3
 pub easter_last : (y : ℕ) → Within 2000 2099 y → easter_sunday y + 1 ≤ last_day
 easter_last y w =
     omega (arith, w.from, w.to, easter_near y, month_next y 3 (omega arith), month_next y 4 (omega arith), month_next y 5 (omega arith), month_least y 3, month_least y 4, month_least y 5, month_mono y 6 13 (omega arith) (omega arith), year_end y w.from)
+
+pub easter_fits : (y : ℕ) → is_year y ≡ true → easter_sunday y ≤ last_day
+easter_fits y h = omega (arith, easter_last y (within 2000 2099 y h))
 
 -- Easter is a Sunday: one test over the calendar's 100 years
 sunday : ℕ → Bool
@@ -105,6 +117,18 @@ nth_working_day_lem y m n w h =
 pub nth_last : (y m n : ℕ) → Month y m → Within 1 18 n → nth_working_day y m n ≤ last_day
 nth_last y m n w h = omega (arith, (nth_working_day_lem y m n w h).to, month_in y m w)
 
+-- a month and an n within limits, as they are asked about: the month has so many working days, and the n-th lies in the calendar
+pub record Asked (y m n : ℕ) : Type 0 where
+  pub some : 1 ≤ n
+  pub few : n ≤ working_count y m
+  pub fits : nth_working_day y m n ≤ last_day
+
+pub asked : (y m n : ℕ) → (is_month y m && between 1 18 n) ≡ true → Asked y m n
+asked y m n h =
+    let month = month_of_test 2099 y m (and_left (is_month y m) (between 1 18 n) h) in
+    let nth = within 1 18 n (and_right (is_month y m) (between 1 18 n) h) in
+    record { some = nth.from; few = omega (arith, nth.to, eighteen y m month); fits = nth_last y m n month nth }
+
 -- a turn of the walk through the days before day e: day d is passed over, or is the first of the working days
 step : (y m d e : ℕ) → d < e → working_from y m d (e - d) ≡ keep_if (working y m d) d (working_from y m (d + 1) (e - (d + 1)))
 unfolding working_from
@@ -135,8 +159,18 @@ pub record Sought (y m e r d k : ℕ) : Type 0 where
   pub left : k ≤ length (working_from y m d (e - d))
   pub is : get_or (working_from y m d (e - d)) (k - 1) 0 ≡ r
 
+pub sought_first : (y m n : ℕ) → 1 ≤ n → n ≤ working_count y m → Sought y m (month_length y m + 1) (nth_of_month y m n) 1 n
+unfolding nth_of_month working_days
+sought_first y m n h k =
+    let e : month_length y m + 1 - 1 ≡ month_length y m = omega arith in
+    record { some = h; left = rw e k; is = rw e refl }
+
 pub sought_left : (y m e r d k : ℕ) → Sought y m e r d k → d < e
 sought_left y m e r d k s = day_left y m d e k s.some s.left
+
+-- by then no more days have passed than a month has
+pub sought_day : (y m r d k : ℕ) → Sought y m (month_length y m + 1) r d k → d ≤ 31
+sought_day y m r d k s = omega (arith, sought_left y m (month_length y m + 1) r d k s, month_most y m)
 
 pub sought_here : (y m e r d k : ℕ) → Sought y m e r d k → working y m d ≡ true → k ≡ 1 → d ≡ r
 sought_here y m e r d k s w p = rw (p, first_of y m d e (sought_left y m e r d k s) w) at s.is
@@ -157,6 +191,12 @@ pub record Counted (y m e total d k : ℕ) : Type 0 where
   pub from : k < d
   pub to : d ≤ e
   pub sum : k + length (working_from y m d (e - d)) ≡ total
+
+pub counted_none : (y m : ℕ) → Counted y m (month_length y m + 1) (working_count y m) 1 0
+unfolding working_days
+counted_none y m =
+    let e : month_length y m + 1 - 1 ≡ month_length y m = omega arith in
+    record { from = omega arith; to = omega arith; sum = rw e (omega arith) }
 
 pub counted_pass : (y m e total d k : ℕ) → Counted y m e total d k → d < e → working y m d ≡ false → Counted y m e total (d + 1) k
 counted_pass y m e total d k s l w =

@@ -4,7 +4,7 @@ ghost use Rattle.days.specs.Days.{day_of};
 ghost use Rattle.working_days.specs.WorkingDays.{week_earlier, easter_offset, easter_sunday, easter_monday, fixed_holiday, working, working_count, nth_of_month};
 ghost use Rattle.working_days.specs.Answers.{easter_answer, type_answer, count_answer, nth_answer};
 
-use days::{Date, LAST_DAY, date_at, day_number, is_month, is_year, month_length, month_start};
+use days::{Date, LAST_DAY, Month, date_at, is_year};
 
 // Whether a gas-day is a working day.
 #[derive(Clone, Copy, PartialEq, Eq)]
@@ -21,6 +21,7 @@ fn is_week_earlier(a: u32, d: u32, e: u32) -> bool
 }
 
 // How many days after 22 March Easter Sunday is, by Gauss's rule.
+#[tactic(auto, using(crate::proofs::WorkingDayLaws::week_fits), unfolding(crate::specs::WorkingDays::easter_offset, crate::specs::WorkingDays::gauss_a, crate::specs::WorkingDays::gauss_b, crate::specs::WorkingDays::gauss_c, crate::specs::WorkingDays::gauss_d, crate::specs::WorkingDays::gauss_e))]
 fn easter_offset(year: u16) -> u8
     ensures { result ≡ easter_offset year }
 {
@@ -38,7 +39,12 @@ fn easter_sunday(year: u16) -> u32
     ensures value { result ≡ easter_sunday year }
     ensures upper_bound { result < 2 ^ 28 }
 {
-    day_number(year, 3, 22) + easter_offset(year) as u32
+    let date = Date {
+        year,
+        month: 3,
+        day: 22,
+    };
+    date.number() + easter_offset(year) as u32
 }
 
 fn easter_monday(year: u16) -> u32
@@ -48,6 +54,7 @@ fn easter_monday(year: u16) -> u32
 }
 
 // Whether a date is one of the holidays that have the same date every year.
+#[tactic(auto, unfolding(crate::specs::WorkingDays::fixed_holiday))]
 fn is_fixed_holiday(month: u8, day: u8) -> bool
     ensures { result ≡ fixed_holiday month day }
 {
@@ -74,6 +81,7 @@ fn is_working(date: Date, number: u32, monday: u32) -> bool
 }
 
 // Easter Sunday of a year.
+#[tactic(auto, using(crate::proofs::WorkingDayLaws::easter_fits), unfolding(crate::specs::Answers::easter_answer))]
 pub fn easter(year: u16) -> Option<u16>
     ensures { result ≡ easter_answer year }
 {
@@ -84,6 +92,7 @@ pub fn easter(year: u16) -> Option<u16>
 }
 
 // Whether a gas-day is a working day.
+#[tactic(auto, using(days::proofs::DateLaws::day_date), unfolding(crate::specs::Answers::type_answer))]
 pub fn day_type(day: u16) -> Option<DayType>
     ensures { result ≡ type_answer day }
 {
@@ -98,16 +107,14 @@ pub fn day_type(day: u16) -> Option<DayType>
 }
 
 // The number of working days of a month, also of one outside the calendar.
-fn count_of_month(year: u16, month: u8) -> u8
-    ensures { result ≡ working_count year month }
+fn count_of_month(month: Month) -> u8
+    ensures { result ≡ working_count month.year month.month }
 {
-    let first = month_start(year, month);
-    let monday = easter_monday(year);
-    let len = month_length(year, month);
+    let first = month.start();
+    let monday = easter_monday(month.year);
     let mut count: u8 = 0;
-    for day in 1..len + 1 {
-        let date = Date { year, month, day };
-        if is_working(date, first + (day as u32 - 1), monday) {
+    for day in 1..month.length() + 1 {
+        if is_working(month.date(day), first + (day as u32 - 1), monday) {
             count += 1;
         }
     }
@@ -115,29 +122,30 @@ fn count_of_month(year: u16, month: u8) -> u8
 }
 
 // How many working days a month has.
-pub fn working_days_of(year: u16, month: u8) -> Option<u8>
-    ensures { result ≡ count_answer year month }
+#[tactic(auto, unfolding(crate::specs::Answers::count_answer))]
+pub fn working_days_of(month: Month) -> Option<u8>
+    ensures { result ≡ count_answer month.year month.month }
 {
-    if is_month(year, month) {
-        return Some(count_of_month(year, month));
+    if month.is_in_calendar() {
+        return Some(count_of_month(month));
     }
     None
 }
 
-// The n-th working day of a month that has so many, by its day of the month. No `for`: that would test for the month's end, and the
-// rule is that each month has at least 18 working days: that is shown, not tested for at run time.
+// The n-th working day of a month that has so many, by its day of the month. No `for`: that would test for the month's end, and
+// that each month has at least 18 working days is shown, not tested for at run time.
 #[tactic(auto, using(crate::proofs::WorkingDayLaws::sought_here))]
-fn nth_of_month(year: u16, month: u8, n: u8) -> u8
-    requires { (1 ≤ n) × (n ≤ working_count year month) }
-    ensures { result ≡ nth_of_month year month n }
+fn nth_of_month(month: Month, n: u8) -> u8
+    requires some { 1 ≤ n }
+    requires few { n ≤ working_count month.year month.month }
+    ensures { result ≡ nth_of_month month.year month.month n }
 {
-    let first = month_start(year, month);
-    let monday = easter_monday(year);
+    let first = month.start();
+    let monday = easter_monday(month.year);
     let mut day: u8 = 1;
     let mut left = n;
     loop {
-        let date = Date { year, month, day };
-        if is_working(date, first + (day as u32 - 1), monday) {
+        if is_working(month.date(day), first + (day as u32 - 1), monday) {
             if left == 1 {
                 return day;
             }
@@ -148,12 +156,13 @@ fn nth_of_month(year: u16, month: u8, n: u8) -> u8
 }
 
 // The n-th working day of a month, for n from 1 to 18.
-pub fn nth_working_day(year: u16, month: u8, n: u8) -> Option<u16>
-    ensures { result ≡ nth_answer year month n }
+#[tactic(auto, using(crate::proofs::WorkingDayLaws::asked), unfolding(crate::specs::Answers::nth_answer))]
+pub fn nth_working_day(month: Month, n: u8) -> Option<u16>
+    ensures { result ≡ nth_answer month.year month.month n }
 {
-    if is_month(year, month) & ((1 <= n) & (n <= 18)) {
-        let day = nth_of_month(year, month, n);
-        return Some(day_number(year, month, day) as u16);
+    if month.is_in_calendar() & ((1 <= n) & (n <= 18)) {
+        let day = nth_of_month(month, n);
+        return Some(month.date(day).number() as u16);
     }
     None
 }

@@ -18,7 +18,7 @@ returns-then-rest-len c = sym (date_here _ _ _ (search rules) (omega arith)) ∙
 pub loop-month-preserved : goal.loop-month-preserved
 loop-month-preserved c =
     let y : ℕ = 2000 + 4 * c.args.day / 1461 in
-    rw c.month_length-len.ensures
+    rw c.length-len.ensures
     (sym (date_on y c.loop-month.month c.loop-month.rest (search rules) (omega arith)) ∙ c.loop-month.invariant.0, omega (arith, month_next y c.loop-month.month (omega arith)), c.loop-month.invariant.2)
 
 pub overflow_cast-result-2 : goal.overflow_cast-result-2

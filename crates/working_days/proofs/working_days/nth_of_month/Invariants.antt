@@ -8,8 +8,8 @@ use Rattle.working_days.specs.WorkingDays.{nth_of_month}
 use Rattle.working_days.proofs.WorkingDayLaws.{Sought}
 use Rattle.working_days.proofs.working_days.nth_of_month.Given as goal
 
-abbrev pub invariant-loop-year : goal.invariant-loop-year
-invariant-loop-year l = (1 ≤ l.day) × Sought l.year l.month (month_length l.year l.month + 1) (nth_of_month l.year l.month l.n) l.day l.left
+abbrev pub invariant-loop-month : goal.invariant-loop-month
+invariant-loop-month l = (1 ≤ l.day) × Sought l.month.year l.month.month (month_length l.month.year l.month.month + 1) (nth_of_month l.month.year l.month.month l.n) l.day l.left
 
-abbrev pub decreases-loop-year : goal.decreases-loop-year
-decreases-loop-year l = month_length l.year l.month + 1 - l.day
+abbrev pub decreases-loop-month : goal.decreases-loop-month
+decreases-loop-month l = month_length l.month.year l.month.month + 1 - l.day

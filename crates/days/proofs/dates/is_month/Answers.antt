@@ -1,4 +1,0 @@
-use Rattle.days.proofs.dates.is_month.Goals as goal
-
-pub returns : goal.returns
-returns c = rw c.is_year.ensures
