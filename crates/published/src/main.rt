@@ -17,7 +17,7 @@
 
 ghost use Rattle.std.specs.Prelude.{◌≤◌};
 
-use calendar::{Date, DayType, Span, Timeliness};
+use calendar::{Date, DayType, Month, Span, Timeliness};
 use std::io::{BufWriter, ErrorKind, Write};
 use std::{fmt, io};
 
@@ -49,11 +49,11 @@ fn print_easter<W: Write>(out: &mut W, year: u16) -> io::Result<()> {
     writeln!(out, "Easter{}", Field(date))
 }
 
-fn print_month<W: Write>(out: &mut W, year: u16, month: u8) -> io::Result<()> {
-    let count = calendar::working_days_of(year, month);
-    write!(out, "{year}-{month:02}{}", Field(count))?;
+fn print_month<W: Write>(out: &mut W, month: Month) -> io::Result<()> {
+    let count = calendar::working_days_of(month);
+    write!(out, "{}-{:02}{}", month.year, month.month, Field(count))?;
     for n in [10, 11, 14, 16] {
-        let date = calendar::nth_working_day(year, month, n).and_then(|day| calendar::date_of(day));
+        let date = calendar::nth_working_day(month, n).and_then(|day| calendar::date_of(day));
         write!(out, "{}", Field(date.map(|d| d.day)))?;
     }
     writeln!(out)
@@ -70,29 +70,25 @@ fn print_thermal_year<W: Write>(out: &mut W, year: u16) -> io::Result<()> {
 }
 
 // How many days of a month, each asked alone, are such.
-fn how_many<F: Fn(u16, Date) -> bool>(year: u16, month: u8, is_such: F) -> usize
+fn how_many<F: Fn(u16, Date) -> bool>(month: Month, is_such: F) -> usize
     requires { F.IsAlwaysCallable is_such }
 {
     (1..32)
         .filter(|day| {
-            let date = Date {
-                year,
-                month,
-                day: *day,
-            };
+            let date = month.date(*day);
             calendar::day_of(date).is_some_and(|number| is_such(number, date))
         })
         .count()
 }
 
 // Whether an arrival is in time for the month after a month of the calendar, which is one of a thermal year.
-fn is_in_time_for_next(arrival: u16, year: u16, month: u8) -> bool
-    requires { (1 ≤ year) × (1 ≤ month) × (month ≤ 12) }
+fn is_in_time_for_next(arrival: u16, month: Month) -> bool
+    requires { (1 ≤ month.year) × (1 ≤ month.month) × (month.month ≤ 12) }
 {
-    let timeliness = if month < 9 {
-        calendar::in_time_preceding_month(arrival, year - 1, month + 4, 11)
+    let timeliness = if month.month < 9 {
+        calendar::in_time_preceding_month(arrival, month.year - 1, month.month + 4, 11)
     } else {
-        calendar::in_time_preceding_month(arrival, year, month - 8, 11)
+        calendar::in_time_preceding_month(arrival, month.year, month.month - 8, 11)
     };
     timeliness == Some(Timeliness::InTime)
 }
@@ -105,37 +101,35 @@ fn is_followed(day: u16, date: Date) -> bool {
 }
 
 // The first of the next month, asked for the last day of a month; 0 where there is none.
-fn first_after(year: u16, month: u8) -> u16 {
+fn first_after(month: Month) -> u16 {
     (1..32)
-        .filter_map(|day| calendar::day_of(Date { year, month, day }))
+        .filter_map(|day| calendar::day_of(month.date(day)))
         .last()
         .and_then(|day| calendar::next_first(day))
         .unwrap_or(0)
 }
 
-fn print_findings<W: Write>(out: &mut W, year: u16, month: u8) -> io::Result<()>
-    requires { (1 ≤ year) × (1 ≤ month) × (month ≤ 12) }
+fn print_findings<W: Write>(out: &mut W, month: Month) -> io::Result<()>
+    requires { (1 ≤ month.year) × (1 ≤ month.month) × (month.month ≤ 12) }
 {
-    let exist = how_many(
-        year,
-        month,
-        |day, date| calendar::date_of(day) == Some(date),
-    );
-    let working = how_many(year, month, |day, _| {
+    let exist = how_many(month, |day, date| calendar::date_of(day) == Some(date));
+    let working = how_many(month, |day, _| {
         calendar::day_type(day) == Some(DayType::Working)
     });
-    let in_time = how_many(year, month, |day, _| {
+    let in_time = how_many(month, |day, _| {
         calendar::in_time_own_month(day, 11) == Some(Timeliness::InTime)
     });
-    let late = how_many(year, month, |day, _| {
+    let late = how_many(month, |day, _| {
         calendar::in_time_own_month(day, 11) == Some(Timeliness::Late)
     });
-    let in_time_for_next = how_many(year, month, |day, _| is_in_time_for_next(day, year, month));
-    let followed = how_many(year, month, is_followed);
-    let first = first_after(year, month);
+    let in_time_for_next = how_many(month, |day, _| is_in_time_for_next(day, month));
+    let followed = how_many(month, is_followed);
+    let first = first_after(month);
+    let year = month.year;
+    let number = month.month;
     writeln!(
         out,
-        "days {year}-{month:02} {exist} {working} {in_time} {late} {in_time_for_next} {followed} {first}"
+        "days {year}-{number:02} {exist} {working} {in_time} {late} {in_time_for_next} {followed} {first}"
     )
 }
 
@@ -146,7 +140,7 @@ fn print_lines<W: Write>(out: &mut W) -> io::Result<()> {
     }
     for year in 2000..2100 {
         for month in 1..13 {
-            print_month(out, year, month)?;
+            print_month(out, Month { year, month })?;
         }
     }
     for year in 2000..2099 {
@@ -154,7 +148,7 @@ fn print_lines<W: Write>(out: &mut W) -> io::Result<()> {
     }
     for year in 2000..2100 {
         for month in 1..13 {
-            print_findings(out, year, month)?;
+            print_findings(out, Month { year, month })?;
         }
     }
     out.flush()
