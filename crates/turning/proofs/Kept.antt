@@ -8,6 +8,7 @@ use Prim.Native.Nat.{ℕ, ◌<◌}
 use native.Mathlib.Nat.{not-suc-le-zero, zero-add}
 use native.Mathlib.Omega.{arith}
 use lib.ListN.{length, length-replicate}
+use Rattle.std.proofs.lemmas.List.{ext_get_or}
 use Rattle.parts.specs.declared.accounts.Account.{Account}
 use Rattle.parts.specs.Limits.{user_count, ledger_length}
 use Rattle.amounts.specs.Ranges.{replaced}
@@ -28,6 +29,17 @@ unfolding settled_accounts
 settled_at_lem us i size b =
     ap (account_at (replaced us 0 user_count (settled_at us))) (sym (zero-add i))
     ∙ replaced_in us 0 user_count (settled_at us) absent_user i b (omega (arith, size))
+
+pub settled_length : (us : List Account) → length (settled_accounts us) ≡ length us
+unfolding settled_accounts
+settled_length us = replaced_length us 0 user_count (settled_at us)
+
+-- and accounts each of which is settled are these
+pub settled_is : (us vs : List Account) → length us ≡ user_count → length vs ≡ user_count
+    → ((i : ℕ) → i < user_count → account_at vs i ≡ with_commitment (account_at us i) 0) → vs ≡ settled_accounts us
+settled_is us vs p q each =
+    ext_get_or absent_user vs (settled_accounts us) (q ∙ sym (settled_length us ∙ p))
+    (λ i b. let h : i < user_count = omega arith in each i h ∙ sym (settled_at_lem us i p h))
 
 settled_ok : (a : Account) → account_ok a ≡ true → account_ok (with_commitment a 0) ≡ true
 settled_ok a h =
@@ -55,10 +67,10 @@ module _ (s : State) (y : ℕ) (sound : Sound s) (w : TurnFacts s y) where
       }
 
   turned_sound : Sound (turned s y)
-  unfolding turned settled_accounts
+  unfolding turned
   turned_sound =
       record {
-        sized = record { points = sound.sized.points; accounts = replaced_length vs 0 user_count (settled_at vs) ∙ sound.sized.accounts };
+        sized = record { points = sound.sized.points; accounts = settled_length vs ∙ sound.sized.accounts };
         order = in_order_lem (turned s y) turned_order;
       }
 

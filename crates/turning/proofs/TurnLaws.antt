@@ -44,3 +44,6 @@ module _ (s : State) (y : ℕ) where
   pub turn_old : (turn_number s y ≡ 0 → ⊥) → s ≡ turn_after s y
   unfolding turn_after
   turn_old h = sym (leaves_old (turn_number s y) (turned s y) s h)
+
+-- what each exit of `turn_year` leaves
+pub ruleset turn_exits = (turn_new, turn_old)
