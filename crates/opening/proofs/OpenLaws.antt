@@ -55,3 +55,6 @@ module _ (s : State) (p kind total rate : ℕ) where
   pub open_old : (open_number s p kind total rate ≡ 0 → ⊥) → s ≡ open_after s p kind total rate
   unfolding open_after
   open_old h = sym (leaves_old (open_number s p kind total rate) (opened s p kind total rate) s h)
+
+-- what each exit of `open_point` leaves
+pub ruleset open_exits = (open_new, open_old)

@@ -6,4 +6,4 @@
 
 mod opening;
 
-pub use opening::open_point;
+pub use opening::{Opening, open_point};

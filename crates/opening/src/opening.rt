@@ -2,93 +2,91 @@
 ghost use Rattle.std.specs.Prelude.{◌≡◌, true, ◌<◌};
 ghost use Rattle.calendar.specs.ThermalYears.{is_thermal_year};
 ghost use Rattle.parts.specs.Limits.{point_count};
-ghost use Rattle.parts.specs.Registers.{state, with_point};
+ghost use Rattle.parts.specs.Registers.{state, state_in, with_point};
 ghost use Rattle.amounts.specs.Amounts.{year_days, freed_row};
-ghost use Rattle.parts.specs.Answers.{number_of_verdict};
+ghost use Rattle.parts.specs.Answers.{number_of_answer};
 ghost use Rattle.opening.specs.OpenPoint.{open_fields, open_number, open_after};
 
-use register::{Filed, Point, Refusal, Register, Verdict};
+use register::{Answered, Point, Refusal, Register, View};
 
-// Question 2.
-fn fields_within_limits(point: u8, kind: u8, total: u64, rate: u32) -> bool
-    ensures { result ≡ open_fields point kind total rate }
-{
-    ((point as usize) < register::POINTS)
-        & (((1 <= kind) & (kind <= 2))
-            & ((1 <= total) & (total <= register::MOST_AMOUNT as u64))
-            & (rate <= register::MOST_RATE))
+// A point to be opened. Its kind and its total are what the caller gives, of any size, and question 2 answers: an enum or a smaller
+// number would ask more of callers.
+#[derive(Clone, Copy)]
+pub struct Opening {
+    pub point: u8,
+    pub kind: u8,
+    pub total: u64,
+    pub rate: u32,
+}
+
+impl Opening {
+    // Question 2.
+    fn is_within_limits(self) -> bool
+        ensures { result ≡ open_fields self.point self.kind self.total self.rate }
+    {
+        ((self.point as usize) < register::POINTS)
+            & (((1 <= self.kind) & (self.kind <= 2))
+                & ((1 <= self.total) & (self.total <= register::MOST_AMOUNT as u64))
+                & (self.rate <= register::MOST_RATE))
+    }
 }
 
 // Questions 1, 2 and 4.
 #[tactic(auto, unfolding(crate::specs::OpenPoint::open_number))]
-fn open_answer(
-    r: Register,
-    free: &[u32],
-    ledger: &[u32],
-    point: u8,
-    kind: u8,
-    total: u64,
-    rate: u32,
-) -> Verdict
-    ensures { number_of_verdict result ≡ open_number (state r free.now ledger.now) point kind total rate }
+fn open_answer(v: View, o: Opening) -> Result<(), Refusal>
+    ensures { number_of_answer result ≡ open_number (state_in v.entry) o.point o.kind o.total o.rate }
 {
-    if !register::in_order(r, free, ledger) {
-        return Verdict::Refused(Refusal::NotInOrder);
+    if !register::in_order(v) {
+        return Err(Refusal::NotInOrder);
     }
-    if !fields_within_limits(point, kind, total, rate) {
-        return Verdict::Refused(Refusal::OutOfLimits);
+    if !o.is_within_limits() {
+        return Err(Refusal::OutOfLimits);
     }
-    let p = r.points[point as usize];
-    if register::is_open(p) {
-        return Verdict::Refused(Refusal::PointOpen);
+    if v.register.points[o.point as usize].is_open() {
+        return Err(Refusal::PointOpen);
     }
-    Verdict::Accepted
+    Ok(())
 }
 
 // The point written, and every gas-day of the year free to its total.
+#[tactic(auto, using(amounts::proofs::AmountLaws::days_of_lem))]
 fn with_free_point(r: Register, free: &mut [u32], point: u8, p: Point) -> Register
     requires { (point < point_count) × (is_thermal_year r.year ≡ true) }
     ensures register { result ≡ with_point r point p }
     ensures free { free.new ≡ freed_row free.old point (year_days r.year) p }
 {
-    let days = register::days_of_year(r.year);
-    register::free_row(free, point, days, p);
+    register::free_row(free, point, register::days_of_year(r.year), p);
     let mut s = r;
     s.points[point as usize] = p;
     s
 }
 
 // Opens a point: every gas-day of the year is free to the total.
-pub fn open_point(
-    r: Register,
-    free: &mut [u32],
-    ledger: &[u32],
-    point: u8,
-    kind: u8,
-    total: u64,
-    rate: u32,
-) -> Filed
-    ensures number { number_of_verdict result.answer ≡ open_number (state r free.old ledger.now) point kind total
-        rate }
+#[tactic(auto, using(crate::proofs::OpenLaws::open_exits))]
+pub fn open_point(r: Register, free: &mut [u32], ledger: &[u32], o: Opening) -> Answered<()>
+    ensures number { number_of_answer result.answer ≡ open_number
+        (state r free.old ledger.now) o.point o.kind o.total o.rate }
     ensures state { state result.register free.new ledger.now ≡ open_after
-        (state r free.old ledger.now) point kind total rate }
+        (state r free.old ledger.now) o.point o.kind o.total o.rate }
 {
-    let answer = open_answer(r, &free[..], ledger, point, kind, total, rate);
-    match answer {
-        Verdict::Accepted => {
-            let p = Point {
-                kind,
-                total: total as u32,
-                rate,
-            };
-            Filed {
-                register: with_free_point(r, free, point, p),
-                answer,
-            }
-        }
-        Verdict::Refused(_) => Filed {
+    let v = View {
+        register: &r,
+        free,
+        ledger,
+    };
+    if let Err(why) = open_answer(v, o) {
+        return Answered {
             register: r,
-            answer,
-        },
+            answer: Err(why),
+        };
+    }
+    let p = Point {
+        kind: o.kind,
+        total: o.total as u32,
+        rate: o.rate,
+    };
+    Answered {
+        register: with_free_point(r, free, o.point, p),
+        answer: Ok(()),
     }
 }
