@@ -6,4 +6,4 @@
 
 mod placing;
 
-pub use placing::place_guarantee;
+pub use placing::{Guarantee, place_guarantee};
