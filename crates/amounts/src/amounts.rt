@@ -4,7 +4,7 @@ ghost use Rattle.amounts.specs.Amounts.{days_of_year, entry_at, entry_in, capaci
 
 use parts::{Point, ROW, TABLE};
 
-// The gas-days of a thermal year; 0 for a year that has no thermal year.
+// The gas-days of a thermal year; a year that has none has 0 of them, which is no sentinel.
 pub fn days_of_year(year: u16) -> usize
     ensures { result ≡ days_of_year year }
 {

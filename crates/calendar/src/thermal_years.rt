@@ -36,7 +36,8 @@ fn is_thermal_month(year: u16, month: u8) -> bool
     is_thermal_year(year) & ((1 <= month) & (month <= 12))
 }
 
-// A month of a thermal year as one of the calendar: month 1 is October.
+// A month of a thermal year as one of the calendar: month 1 is October. It stays two numbers, not a `Month`, since calls name its number
+// alone, and its year is that of the register.
 #[tactic(auto, using(crate::proofs::ThermalYearLaws::month_year), unfolding(crate::specs::Answers::calendar_answer, crate::specs::ThermalYears::calendar_year, crate::specs::ThermalYears::calendar_month))]
 pub(crate) fn calendar_month(year: u16, month: u8) -> Option<Month>
     ensures { result ≡ calendar_answer year month }

@@ -49,6 +49,8 @@ fn is_leap(year: u16) -> bool
     year % 4 == 0
 }
 
+// Whether a year is one of the calendar. The last one is another than that of the thermal years, which are asked about in `calendar`: the
+// test is a line in both, and one for any last year would say no more.
 pub fn is_year(year: u16) -> bool
     ensures { result ≡ is_year year }
 {

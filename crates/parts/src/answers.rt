@@ -49,6 +49,9 @@ impl From<Refusal> for u8 {
     }
 }
 
+// The calls take the register by value and two lists beside it, as a host in C has them. One struct of all three would not serve, since
+// a list that one call writes another only reads.
+//
 // What a call that takes the register gives back: the register as it then is, and the answer, an amount or nothing more than that
 // the call is accepted.
 #[derive(Drop)]

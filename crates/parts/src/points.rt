@@ -4,7 +4,8 @@ ghost use Rattle.parts.specs.Points.{is_open, is_direct, point_ok};
 
 use crate::limits::{MOST_RATE, is_amount};
 
-// Kind 0 is closed, 1 direct, 2 thermoelectric. The total is in Sm3 a day; the rate is for each Sm3/day and gas-day, in millionths
+// Kind 0 is closed, 1 direct, 2 thermoelectric: a number, since a host in C passes the register by value, and question 1 is what
+// finds another one. The total is in Sm3 a day; the rate is for each Sm3/day and gas-day, in millionths
 // of a euro.
 #[repr(C)]
 #[derive(Clone, Copy)]

@@ -6,7 +6,7 @@ use crate::accounts::Account;
 use crate::limits::{POINTS, USERS};
 use crate::points::Point;
 
-// `lines` is how many lines of the ledger are used.
+// `lines` is how many lines of the ledger are used: the ledger is lent by the host and has its full length at all times.
 #[repr(C)]
 #[derive(Clone, Copy)]
 pub struct Register {
