@@ -25,7 +25,7 @@ use Rattle.holdings.specs.declared.holdings.Holding.{Holding}
 use Rattle.holdings.specs.declared.gathering.GatheredLine.{GatheredLine}
 use Rattle.calendar.specs.declared.thermal_years.Span.{Span}
 use Rattle.holdings.specs.Holdings.{signed_sum, is_his, covers_day, part_of, part_in}
-use Rattle.holdings.specs.Steps.{bounds_of, end_of, is_gathered, gathered_line, part_on, no_line, gathered_part, part_throughout, counts_on_some, places}
+use Rattle.holdings.specs.Steps.{bounds_of, end_of, is_gathered, gathered_line, part_on, gathered_part, part_throughout, counts_on_some, places}
 use Rattle.holdings.proofs.SumLaws.{sum_more, sum_same}
 
 -- a day between the bounds of a year is a day of it
@@ -129,48 +129,56 @@ swapped a s t p =
 
 -- ---- one more line
 module _ (y : ℕ) (ls : List ℕ) (h : Holding) (i : ℕ) (b : Span) (l : Line) (eb : b ≡ bounds_of y) (el : l ≡ line_at ls i)
-    (cs : List GatheredLine) (n : ℕ) (z : ℤ)
-    (sums : (d : ℕ) → h.first ≤ d → d ≤ h.last → signed_sum i (part_in y ls h.user h.point d) ≡ z +ℤ signed_sum n (gathered_part cs d)) where
+    (firsts lasts : List ℕ) (amounts : List ℤ) (n : ℕ) (z : ℤ)
+    (sums : (d : ℕ) → h.first ≤ d → d ≤ h.last → signed_sum i (part_in y ls h.user h.point d) ≡ z +ℤ signed_sum n (gathered_part firsts lasts amounts d)) where
   part : (d : ℕ) → part_in y ls h.user h.point d i ≡ cond (in_thermal_year y l.first) (part_of y h.user h.point d l) (pos 0)
   part d = ap (λ (x : Line). cond (in_thermal_year y x.first) (part_of y h.user h.point d x) (pos 0)) (sym el)
 
   -- it is gathered
-  module _ (c : GatheredLine) (room : n < length cs) where
+  module _ (c : GatheredLine) (room : (n < length firsts) × (n < length lasts) × (n < length amounts)) where
     put : (d k : ℕ) → ℤ
-    put d k = gathered_part (set cs n c) d k
+    put d k = gathered_part (set firsts n c.span.first) (set lasts n c.span.last) (set amounts n c.amount) d k
 
-    put_other : (d k : ℕ) → k < n → put d k ≡ gathered_part cs d k
+    put_other : (d k : ℕ) → k < n → put d k ≡ gathered_part firsts lasts amounts d k
     unfolding put
-    put_other d k m = ap (part_on d) (get_or-set_other cs n k c no_line (λ q. omega arith))
+    put_other d k m =
+        let e = get_or-set_other firsts n k c.span.first 0 (λ q. omega arith) in
+        let f = get_or-set_other lasts n k c.span.last 0 (λ q. omega arith) in
+        let g = get_or-set_other amounts n k c.amount (pos 0) (λ q. omega arith) in
+        rw (e, f, g)
 
     put_same : (d : ℕ) → put d n ≡ part_on d c
     unfolding put
-    put_same d = ap (part_on d) (get_or-set_same cs n c no_line room)
+    put_same d =
+        let e = get_or-set_same firsts n c.span.first 0 room.0 in
+        let f = get_or-set_same lasts n c.span.last 0 room.1 in
+        let g = get_or-set_same amounts n c.amount (pos 0) room.2 in
+        rw (e, f, g)
 
     -- it takes a place or none
-    put_sum : (d : ℕ) (t : Bool) → signed_sum (n + cond t 1 0) (put d) ≡ signed_sum n (gathered_part cs d) +ℤ cond t (part_on d c) (pos 0)
+    put_sum : (d : ℕ) (t : Bool) → signed_sum (n + cond t 1 0) (put d) ≡ signed_sum n (gathered_part firsts lasts amounts d) +ℤ cond t (part_on d c) (pos 0)
     put_sum d true =
         sum_more n (put d)
-        ∙ ap₂ ◌+ℤ◌ (sum_same n (put d) (gathered_part cs d) (put_other d)) (put_same d)
+        ∙ ap₂ ◌+ℤ◌ (sum_same n (put d) (gathered_part firsts lasts amounts d) (put_other d)) (put_same d)
     put_sum d false =
         ap (λ (k : ℕ). signed_sum k (put d)) (add-zero n)
-        ∙ sum_same n (put d) (gathered_part cs d) (put_other d)
+        ∙ sum_same n (put d) (gathered_part firsts lasts amounts d) (put_other d)
         ∙ sym (+ℤ_idr _)
 
-    pub one_gathered : (cs' : List GatheredLine) (n' : ℕ) (z' : ℤ) → is_gathered h b l ≡ true → c ≡ gathered_line b.last l
-        → cs' ≡ set cs n c → n' ≡ n + places h c → z' ≡ z +ℤ part_throughout h c
-        → (d : ℕ) → h.first ≤ d → d ≤ h.last → signed_sum (i + 1) (part_in y ls h.user h.point d) ≡ z' +ℤ signed_sum n' (gathered_part cs' d)
+    pub one_gathered : (firsts' lasts' : List ℕ) (amounts' : List ℤ) (n' : ℕ) (z' : ℤ) → is_gathered h b l ≡ true → c ≡ gathered_line b.last l
+        → firsts' ≡ set firsts n c.span.first → lasts' ≡ set lasts n c.span.last → amounts' ≡ set amounts n c.amount → n' ≡ n + places h c → z' ≡ z +ℤ part_throughout h c
+        → (d : ℕ) → h.first ≤ d → d ≤ h.last → signed_sum (i + 1) (part_in y ls h.user h.point d) ≡ z' +ℤ signed_sum n' (gathered_part firsts' lasts' amounts' d)
     unfolding put
-    one_gathered cs' n' z' g ec es en ez d from to =
-        rw (es, en, ez)
+    one_gathered firsts' lasts' amounts' n' z' g ec ef eg ea en ez d from to =
+        rw (ef, eg, ea, en, ez)
         (sum_more i (part_in y ls h.user h.point d)
         ∙ ap₂ ◌+ℤ◌ (sums d from to) (part d ∙ gathered_part_lem y h b l eb d g ∙ ap (part_on d) (sym ec) ∙ split c.span.first c.span.last h.first h.last d from to c.amount)
-        ∙ swapped z (signed_sum n (gathered_part cs d)) (part_throughout h c) (cond (counts_on_some h c) (part_on d c) (pos 0))
+        ∙ swapped z (signed_sum n (gathered_part firsts lasts amounts d)) (part_throughout h c) (cond (counts_on_some h c) (part_on d c) (pos 0))
         ∙ ap (λ (x : ℤ). (z +ℤ part_throughout h c) +ℤ x) (sym (put_sum d (counts_on_some h c))))
 
   -- it is left out
   pub one_left : is_gathered h b l ≡ false
-      → (d : ℕ) → h.first ≤ d → d ≤ h.last → signed_sum (i + 1) (part_in y ls h.user h.point d) ≡ z +ℤ signed_sum n (gathered_part cs d)
+      → (d : ℕ) → h.first ≤ d → d ≤ h.last → signed_sum (i + 1) (part_in y ls h.user h.point d) ≡ z +ℤ signed_sum n (gathered_part firsts lasts amounts d)
   one_left g d from to =
       sum_more i (part_in y ls h.user h.point d)
       ∙ ap₂ ◌+ℤ◌ (sums d from to) (part d ∙ other_part y h b l eb d g)

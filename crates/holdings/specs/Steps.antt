@@ -33,12 +33,12 @@ gathered_line last l = record { span = span l.first (end_of last l); amount = l.
 abbrev pub part_on : ℕ → GatheredLine → ℤ
 part_on d c = cond (between c.span.first c.span.last d) c.amount (pos 0)
 
--- the same of line k of those gathered; past the last a line that adds nothing
-abbrev pub no_line : GatheredLine
-no_line = record { span = span 0 0; amount = pos 0 }
+-- line k of those gathered, and the same of it
+abbrev pub line_in : List ℕ → List ℕ → List ℤ → ℕ → GatheredLine
+line_in firsts lasts amounts k = record { span = span (get_or firsts k 0) (get_or lasts k 0); amount = get_or amounts k (pos 0) }
 
-abbrev pub gathered_part : List GatheredLine → ℕ → ℕ → ℤ
-gathered_part cs d k = part_on d (get_or cs k no_line)
+abbrev pub gathered_part : List ℕ → List ℕ → List ℤ → ℕ → ℕ → ℤ
+gathered_part firsts lasts amounts d k = part_on d (line_in firsts lasts amounts k)
 
 -- a line that counts on every day of the span of a holding, and what it adds on each
 abbrev pub counts_throughout : Holding → GatheredLine → Bool
@@ -56,11 +56,11 @@ places h c = cond (counts_on_some h c) 1 0
 
 -- what the lines gathered sum to on a day
 abbrev pub gathered_sum : Gathered → ℕ → ℤ
-gathered_sum c d = c.base +ℤ signed_sum c.count (gathered_part c.lines d)
+gathered_sum c d = c.base +ℤ signed_sum c.count (gathered_part c.firsts c.lasts c.amounts d)
 
 -- there is room for each line
 abbrev pub Sized : Gathered → Type 0
-Sized c = length c.lines ≡ line_count
+Sized c = (length c.firsts ≡ line_count) × (length c.lasts ≡ line_count) × (length c.amounts ≡ line_count)
 
 -- all lines gathered: on every day of the span they sum to what the first n lines of the ledger do
 pub record Gathers (y n : ℕ) (ls : List ℕ) (h : Holding) (c : Gathered) : Type 0 where

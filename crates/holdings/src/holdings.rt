@@ -44,7 +44,7 @@ fn short_day(gathered: &Gathered, h: Holding) -> Option<u16>
                 }
                 break 'lines;
             }
-            sum += gathered.lines[k].part_on(day as u16);
+            sum += gathered.line(k).part_on(day as u16);
             k += 1;
         }
         day += 1;

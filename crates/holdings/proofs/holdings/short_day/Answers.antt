@@ -1,5 +1,5 @@
 use mathlib.Core.Path.{◌≡◌, refl, sym, ap, ap₂, ◌∙◌}
-use Prim.Native.Nat.{ℕ, ◌+◌, ◌*◌, ◌<◌}
+use Prim.Native.Nat.{ℕ, ◌+◌, ◌*◌, ◌^◌, ◌<◌}
 use native.Mathlib.Nat.{le_trans}
 use lib.IntN.{ℤ, ◌+ℤ◌, +ℤ_idr, +ℤ_assoc}
 use lib.Signed.{lt_z}
@@ -8,7 +8,8 @@ use mir.Val.{to_z}
 use mir.Facts.{to_z_pos}
 use Rattle.parts.specs.Limits.{line_count}
 use Rattle.holdings.specs.Holdings.{signed_sum}
-use Rattle.holdings.specs.Steps.{gathered_part, gathered_short}
+use Rattle.holdings.specs.declared.gathering.Gathered.{Gathered}
+use Rattle.holdings.specs.Steps.{part_on, gathered_part, gathered_short}
 use Rattle.holdings.proofs.SumLaws.{sum_none, sum_more, field_held, added, added_small}
 use Rattle.holdings.proofs.HeldLaws.{first_none, first_hit, first_miss}
 use native.Mathlib.Omega.{arith}
@@ -35,7 +36,7 @@ lines-preserved c =
     let small = added_small c.lines.sum-bits (to_z w64 c.lines.sum-bits) c.part_on-sum.result (line_count + c.lines.k) refl c.lines.invariant.small few c.part_on-sum.ensures.small in
     record {
       few = omega arith;
-      sum = e ∙ more c.args.gathered.now.base c.lines.k (gathered_part c.args.gathered.now.lines c.days.day) c.lines.invariant.sum c.part_on-sum.ensures.value;
+      sum = e ∙ more c.args.gathered.now.base c.lines.k (gathered_part c.args.gathered.now.firsts c.args.gathered.now.lasts c.args.gathered.now.amounts c.days.day) c.lines.invariant.sum (c.part_on-sum.ensures.value ∙ ap (part_on c.days.day) c.line.ensures);
       small = rw e (le_trans small (omega arith));
     }
 
@@ -44,12 +45,15 @@ returns-then-h-day c =
     let past : c.args.h.last < c.days.day = omega arith in
     sym (c.days.invariant ∙ first_none _ _ _ past)
 
+-- the sum of all lines, compared with the amount
+tested : (v : Gathered) (n k d : ℕ) {s : ℤ} → s ≡ v.base +ℤ signed_sum k (gathered_part v.firsts v.lasts v.amounts d) → k ≡ v.count → n < 2 ^ 32 → lt_z s (to_z w64 n) ≡ gathered_short v n d
+tested v n k d e all small =
+    ap₂ lt_z (e ∙ ap (λ (m : ℕ). v.base +ℤ signed_sum m (gathered_part v.firsts v.lasts v.amounts d)) all) (to_z_pos w64 (omega arith))
+
 pub returns-then-sum-h : goal.returns-then-sum-h
 returns-then-sum-h c =
-    let test : (lt_z (to_z w64 c.lines.sum-bits) (to_z w64 c.args.h.amount) ≡ gathered_short c.args.gathered.now c.args.h.amount c.days.day) = ap₂ lt_z (c.lines.invariant.sum ∙ ap (λ (k : ℕ). c.args.gathered.now.base +ℤ signed_sum k (gathered_part c.args.gathered.now.lines c.days.day)) (omega arith)) (to_z_pos w64 (omega arith)) in
-    sym (c.days.invariant ∙ first_hit _ _ _ (omega arith) (sym test ∙ c.if-sum-h.true))
+    sym (c.days.invariant ∙ first_hit _ _ _ (omega arith) (sym (tested c.args.gathered.now c.args.h.amount _ c.days.day c.lines.invariant.sum (omega arith) (omega arith)) ∙ c.if-sum-h.true))
 
 pub days-preserved : goal.days-preserved
 days-preserved c =
-    let test : (lt_z (to_z w64 c.lines.sum-bits) (to_z w64 c.args.h.amount) ≡ gathered_short c.args.gathered.now c.args.h.amount c.days.day) = ap₂ lt_z (c.lines.invariant.sum ∙ ap (λ (k : ℕ). c.args.gathered.now.base +ℤ signed_sum k (gathered_part c.args.gathered.now.lines c.days.day)) (omega arith)) (to_z_pos w64 (omega arith)) in
-    c.days.invariant ∙ first_miss _ _ _ (omega arith) (sym test ∙ c.if-sum-h.false)
+    c.days.invariant ∙ first_miss _ _ _ (omega arith) (sym (tested c.args.gathered.now c.args.h.amount _ c.days.day c.lines.invariant.sum (omega arith) (omega arith)) ∙ c.if-sum-h.false)

@@ -12,7 +12,7 @@ abbrev pub invariant-lines : goal.invariant-lines
 invariant-lines l =
     record {
       few : l.k ≤ l.gathered.count;
-      sum : l.sum ≡ l.gathered.base +ℤ signed_sum l.k (gathered_part l.gathered.lines l.day);
+      sum : l.sum ≡ l.gathered.base +ℤ signed_sum l.k (gathered_part l.gathered.firsts l.gathered.lasts l.gathered.amounts l.day);
       small : mag l.sum ≤ 2147483648 * (line_count + l.k);
     }
 
