@@ -7,21 +7,16 @@ use Prim.Native.Nat.{ℕ, zero, suc, ◌+◌, ◌*◌, ◌%◌, ◌≤◌, ◌<�
 use native.Mathlib.Numerals.{add-one}
 use native.Mathlib.Omega.{arith}
 use lib.ListN.{get_or, length}
-use borrow.Author.Tests.{lt-leb, le-leb}
 use Rattle.calendar.specs.ThermalYears.{is_thermal_year, thermal_first, thermal_last}
 use Rattle.days.proofs.Ranges.{both}
 use Rattle.parts.specs.declared.points.Point.{Point}
 use Rattle.parts.specs.declared.accounts.Account.{Account}
 use Rattle.parts.specs.declared.registers.Register.{Register}
-use Rattle.parts.specs.Limits.{point_count, line_count, row_length, most_amount}
+use Rattle.parts.specs.Limits.{point_count, row_length, most_amount}
 use Rattle.amounts.specs.Amounts.{year_days, days_of_year, entry_at, entry_of, taken}
 use Rattle.parts.specs.Registers.{State, state, point_at, account_at, with_account, with_lines}
-use Rattle.parts.specs.Points.{is_open}
-use Rattle.parts.specs.Answers.{leaves}
-use Rattle.parts.proofs.AnswerLaws.{leaves_new}
 use Rattle.amounts.proofs.AmountLaws.{days_of_lem, taken_none, taken_twice}
 use Rattle.amounts.proofs.CalendarLaws.{year_facts}
-use Rattle.order.specs.Order.{in_order}
 use Rattle.conferral.specs.declared.bookings.Grant.{Grant}
 use Rattle.conferral.specs.Bookings.{days_of, book_after}
 use Rattle.conferral.specs.Postings.{room_for, Posting, posting, post_after}
@@ -29,40 +24,12 @@ use Rattle.conferral.proofs.PostingLaws.{own_user, room_facts, posted_booked, af
 use Rattle.spans.specs.Spans.{span_fits, span_in_year}
 use Rattle.spans.proofs.SpanLaws.{span_fits_lem}
 use Rattle.shares.specs.Batches.{Batch, lines_of, grant_for}
-use Rattle.shares.specs.ShareLines.{batch_fields, shares_of, numbers_of, shares_listed, numbers_listed}
-use Rattle.shares.proofs.CanShareLaws.{shares_left_lem, numbers_left_lem}
-use Rattle.batches.specs.ConferBatch.{batch_number, batch_after, booked_lines}
+use Rattle.shares.specs.ShareLines.{most_lines, shares_of, numbers_of, shares_listed, numbers_listed}
+use Rattle.shares.proofs.CanShareLaws.{shares_left_lem, numbers_left_lem, shares_long}
+use Rattle.batches.specs.ConferBatch.{batch_number, booked_lines}
 use Rattle.batches.specs.Steps.{grant_to, book_some}
-use Rattle.batches.proofs.AnswerLaws.{accepted_after, can_share_lem}
+use Rattle.batches.proofs.AnswerLaws.{facts, can_share_lem}
 use Rattle.batches.proofs.BookedLaws.{booked_some}
-
--- ---- the number of a batch, at each exit
-module _ (s : State) (b : Batch) (m n : ℕ) where
-  pub batch_one : in_order s ≡ false → 1 ≡ batch_number s b m n
-  unfolding batch_number
-  batch_one h = rw h
-
-  module _ (h : in_order s ≡ true) where
-    pub batch_two : batch_fields b m n ≡ false → 2 ≡ batch_number s b m n
-    unfolding batch_number
-    batch_two f = rw (h, f)
-
-    module _ (f : batch_fields b m n ≡ true) where
-      pub batch_three : is_open (point_at s.register.points b.point) ≡ false → 3 ≡ batch_number s b m n
-      unfolding batch_number
-      batch_three o = rw (h, f, o)
-
-      module _ (o : is_open (point_at s.register.points b.point) ≡ true) where
-        pub batch_thirteen : line_count < s.register.lines + lines_of b → 13 ≡ batch_number s b m n
-        unfolding batch_number
-        batch_thirteen l = rw (h, f, o, lt-leb (s.register.lines + lines_of b) line_count l)
-
-        pub batch_zero : s.register.lines + lines_of b ≤ line_count → 0 ≡ batch_number s b m n
-        unfolding batch_number
-        batch_zero l = rw (h, f, o, le-leb (s.register.lines + lines_of b) line_count l)
-
--- a law for each exit of `batch_answer`
-pub ruleset batch_exits = (batch_one, batch_two, batch_three, batch_thirteen, batch_zero)
 
 -- ---- the bookings: one more
 pub book_more : (s t v : State) (y p : ℕ) (us shares : List ℕ) (i : ℕ) (g : Grant) → t ≡ book_some s y p us shares i
@@ -160,13 +127,6 @@ module _ (r : Register) (f l : List ℕ) (b : Batch) (shares numbers : List ℕ)
   pub numbers_told : list ≡ numbers_listed r f b shares numbers → list ≡ numbers_of (state r f l) b
   numbers_told e = e ∙ numbers_left_lem r f b shares numbers (can_share_lem (state r f l) b (length shares) (length numbers) h) l
 
--- what an accepted batch leaves
-pub left_new : {A : Type 0} (n : ℕ) (x new old : A) → n ≡ 0 → x ≡ new → x ≡ leaves n new old
-left_new n x new old z e = e ∙ sym (leaves_new n new old z)
-
-pub left_after : (s t : State) (b : Batch) (m n : ℕ) → batch_number s b m n ≡ 0 → t ≡ booked_lines s b (lines_of b) → t ≡ batch_after s b m n
-left_after s t b m n z e = e ∙ sym (accepted_after s b m n z)
-
 -- the bookings of the list of the shares are those of the definition
 pub shares_booked : (s t : State) (b : Batch) (m n : ℕ) (shares : List ℕ) → batch_number s b m n ≡ 0 → shares ≡ shares_of s b
     → t ≡ book_some s s.register.year b.point b.users shares (lines_of b)
@@ -175,3 +135,10 @@ shares_booked s t b m n shares h e w =
     w
     ∙ ap (λ (l : List ℕ). book_some s s.register.year b.point b.users l (lines_of b)) e
     ∙ booked_some s b m n h
+
+-- what `book_shares` needs of the shares
+pub shares_ready : (s : State) (b : Batch) (m n : ℕ) (shares : List ℕ) → batch_number s b m n ≡ 0 → shares ≡ shares_of s b
+    → (is_thermal_year s.register.year ≡ true) × ((b.point < point_count) × ((length shares ≡ lines_of b) × (lines_of b ≤ most_lines)))
+shares_ready s b m n shares h e =
+    let known = facts s b m n h in
+    (known.order.year, (known.point, (ap length e ∙ shares_long s b, known.lines.to)))

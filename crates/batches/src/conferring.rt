@@ -2,82 +2,68 @@
 ghost use Rattle.std.specs.Prelude.{◌≡◌, ◌<◌, ◌≤◌, length, true};
 ghost use Rattle.calendar.specs.ThermalYears.{is_thermal_year};
 ghost use Rattle.parts.specs.Limits.{point_count};
-ghost use Rattle.parts.specs.Registers.{state};
-ghost use Rattle.parts.specs.Answers.{number_of_verdict};
-ghost use Rattle.shares.specs.Batches.{batch};
+ghost use Rattle.parts.specs.Registers.{state, state_in};
+ghost use Rattle.parts.specs.Answers.{number_of_answer};
+ghost use Rattle.shares.specs.Batches.{batch_in};
 ghost use Rattle.shares.specs.ShareLines.{most_lines, shares_of, numbers_of};
 ghost use Rattle.batches.specs.ConferBatch.{batch_number, booked_lines, batch_after, shares_after, numbers_after};
 ghost use Rattle.batches.specs.Steps.{book_some};
 
-use crate::lines::{USERS, grant_to, year_grant};
-use register::{Filed, Refusal, Register, Verdict};
+use crate::lines::{grant_to, year_grant};
+use conferral::USERS;
+use register::{Answered, Refusal, Register, View};
+use shares::Batch;
 
 // Questions 1, 2, 3 and 13; the lists for shares and numbers have so many places.
-#[tactic(auto, using(crate::proofs::LoopLaws::batch_exits))]
-fn batch_answer(
-    r: Register,
-    free: &[u32],
-    ledger: &[u32],
-    point: u8,
-    users: &[u8],
-    asked: &[u64],
-    shares: usize,
-    numbers: usize,
-) -> Verdict
-    ensures { number_of_verdict result ≡ batch_number (state r free.now ledger.now)
-        (batch point users.now asked.now) shares numbers }
+#[tactic(auto, unfolding(crate::specs::ConferBatch::batch_number))]
+fn batch_answer(v: View, b: Batch, shares: usize, numbers: usize) -> Result<(), Refusal>
+    ensures { number_of_answer result ≡ batch_number (state_in v.entry) (batch_in b.entry) shares numbers }
 {
-    if !register::in_order(r, free, ledger) {
-        return Verdict::Refused(Refusal::NotInOrder);
+    if !register::in_order(v) {
+        return Err(Refusal::NotInOrder);
     }
-    let fit = shares::lengths_fit(users.len(), asked.len(), shares, numbers);
-    if !(((point as usize) < register::POINTS) & fit) {
-        return Verdict::Refused(Refusal::OutOfLimits);
+    if !(((b.point as usize) < register::POINTS) & b.lengths_fit(shares, numbers)) {
+        return Err(Refusal::OutOfLimits);
     }
-    let p = r.points[point as usize];
-    if !register::is_open(p) {
-        return Verdict::Refused(Refusal::PointClosed);
+    let p = v.register.points[b.point as usize];
+    if !p.is_open() {
+        return Err(Refusal::PointClosed);
     }
-    if register::LINES < r.lines as usize + users.len() {
-        return Verdict::Refused(Refusal::LedgerFull);
+    if register::LINES < v.register.lines as usize + b.users.len() {
+        return Err(Refusal::LedgerFull);
     }
-    Verdict::Accepted
+    Ok(())
 }
 
 // Books each share above 0, in the order of the lines, and takes their sum from each day of the year. A share of 0 has no room in any
 // register and is left out. The register is altered in its place: one that went through a call for each share would be copied as often.
+#[tactic(auto, using(crate::proofs::LoopLaws::none_booked))]
 fn book_shares(
-    r: Register,
+    mut r: Register,
     free: &mut [u32],
     ledger: &mut [u32],
-    point: u8,
-    users: &[u8],
+    b: Batch,
     shares: &[u32],
 ) -> Register
-    requires { (is_thermal_year r.year ≡ true) × ((point < point_count) ×
-        ((length shares.now ≡ length users.now) × (length users.now ≤ most_lines))) }
+    requires { (is_thermal_year r.year ≡ true) × ((b.point < point_count) ×
+        ((length shares.now ≡ length b.users.now) × (length b.users.now ≤ most_lines))) }
     ensures { state result free.new ledger.new ≡ book_some (state r free.old ledger.old)
-        r.year point users.now shares.now (length users.now) }
+        r.year b.entry.point b.entry.users.now shares.now (length b.entry.users.now) }
 {
-    let p = r.points[point as usize];
-    let whole = year_grant(r.year, 0, point, 0);
+    let p = r.points[b.point as usize];
+    let whole = year_grant(r.year, 0, b.point, 0);
     let days = register::days_of_year(r.year);
-    let mut s = r;
     let mut sum: u32 = 0;
-    let mut i: usize = 0;
-    while i < users.len() {
-        let g = grant_to(whole, users[i], shares[i]);
-        let user = (g.user % USERS) as usize;
-        let a = s.accounts[user];
-        let posted = conferral::post(s.lines, a, p, ledger, g);
-        let b = posted.account;
-        s.accounts[user] = b;
-        s.lines = posted.lines;
+    for (user, share) in b.users.iter().zip(shares) {
+        let g = grant_to(whole, *user, *share);
+        let place = (g.user % USERS) as usize;
+        let posted = conferral::post(r.lines, r.accounts[place], p, ledger, g);
+        r.accounts[place] = posted.account;
+        r.lines = posted.lines;
         sum += posted.amount;
-        i += 1;
     }
-    register::take_free(free, register::ROW * (point as usize), days, sum);
-    s
+    register::take_free(free, register::ROW * (b.point as usize), days, sum);
+    r
 }
 
 // The lines of a batch that passed its questions: their numbers, their shares, and the bookings.
@@ -85,68 +71,52 @@ fn confer_lines(
     r: Register,
     free: &mut [u32],
     ledger: &mut [u32],
-    point: u8,
-    users: &[u8],
-    asked: &[u64],
+    b: Batch,
     shares: &mut [u32],
     numbers: &mut [u8],
 ) -> Register
-    requires { batch_number (state r free.old ledger.old) (batch point users.now asked.now) (length shares.old)
-        (length numbers.old) ≡ 0 }
+    requires { batch_number (state r free.old ledger.old) (batch_in b) (length shares.old) (length numbers.old) ≡ 0 }
     ensures state { state result free.new ledger.new ≡ booked_lines (state r free.old ledger.old)
-        (batch point users.now asked.now) (length users.now) }
-    ensures shares { shares.new ≡ shares_of (state r free.old ledger.old)
-        (batch point users.now asked.now) }
-    ensures numbers { numbers.new ≡ numbers_of (state r free.old ledger.old)
-        (batch point users.now asked.now) }
+        (batch_in b.entry) (length b.entry.users.now) }
+    ensures shares { shares.new ≡ shares_of (state r free.old ledger.old) (batch_in b.entry) }
+    ensures numbers { numbers.new ≡ numbers_of (state r free.old ledger.old) (batch_in b.entry) }
 {
-    shares::share_lines(r, &free[..], point, users, asked, shares, numbers);
-    book_shares(r, free, ledger, point, users, &shares[..])
+    shares::share_lines(&r, &free[..], b, shares, numbers);
+    book_shares(r, free, ledger, b, &shares[..])
 }
 
-// Confers a batch at a point for the whole year: each line gets what it asked for, or where the sum is more than the smallest free
-// amount of the year its part of that, rounded down. Shares and numbers go to the two last lists.
+// Confers a batch for the whole year: each line gets what it asked for, or where the sum is more than the smallest free amount of the
+// year its part of that, rounded down. Shares and numbers go to the two last lists.
+#[tactic(auto, unfolding(crate::specs::ConferBatch::batch_after))]
 pub fn confer_batch(
     r: Register,
     free: &mut [u32],
     ledger: &mut [u32],
-    point: u8,
-    users: &[u8],
-    asked: &[u64],
+    b: Batch,
     shares: &mut [u32],
     numbers: &mut [u8],
-) -> Filed
-    ensures number { number_of_verdict result.answer ≡ batch_number (state r free.old ledger.old)
-        (batch point users.now asked.now) (length shares.old) (length numbers.old) }
-    ensures state { state result.register free.new ledger.new ≡ batch_after
-        (state r free.old ledger.old) (batch point users.now asked.now)
+) -> Answered<()>
+    ensures number { number_of_answer result.answer ≡ batch_number (state r free.old ledger.old) (batch_in b.entry)
         (length shares.old) (length numbers.old) }
-    ensures shares { shares.new ≡ shares_after (state r free.old ledger.old)
-        (batch point users.now asked.now) shares.old numbers.old }
-    ensures numbers { numbers.new ≡ numbers_after (state r free.old ledger.old)
-        (batch point users.now asked.now) shares.old numbers.old }
+    ensures state { state result.register free.new ledger.new ≡ batch_after (state r free.old ledger.old)
+        (batch_in b.entry) (length shares.old) (length numbers.old) }
+    ensures shares { shares.new ≡ shares_after (state r free.old ledger.old) (batch_in b.entry) shares.old numbers.old }
+    ensures numbers { numbers.new ≡ numbers_after (state r free.old ledger.old) (batch_in b.entry) shares.old numbers.old }
 {
-    let answer = batch_answer(
-        r,
-        &free[..],
-        &ledger[..],
-        point,
-        users,
-        asked,
-        shares.len(),
-        numbers.len(),
-    );
-    match answer {
-        Verdict::Accepted => {
-            let next = confer_lines(r, free, ledger, point, users, asked, shares, numbers);
-            Filed {
-                register: next,
-                answer,
-            }
-        }
-        Verdict::Refused(_) => Filed {
+    let v = View {
+        register: &r,
+        free,
+        ledger,
+    };
+    if let Err(why) = batch_answer(v, b, shares.len(), numbers.len()) {
+        return Answered {
             register: r,
-            answer,
-        },
+            answer: Err(why),
+        };
+    }
+    let next = confer_lines(r, free, ledger, b, shares, numbers);
+    Answered {
+        register: next,
+        answer: Ok(()),
     }
 }

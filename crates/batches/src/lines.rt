@@ -4,48 +4,28 @@ ghost use Rattle.calendar.specs.ThermalYears.{is_thermal_year};
 ghost use Rattle.shares.specs.Batches.{grant_for};
 ghost use Rattle.batches.specs.Steps.{grant_to};
 
-use calendar::Span;
 use conferral::Grant;
-
-// Users, as wide as a line names them.
-pub(crate) const USERS: u8 = 64;
 
 // A grant of another amount to another user, at the same point and on the same days.
 pub(crate) fn grant_to(g: Grant, user: u8, amount: u32) -> Grant
     ensures { result ≡ grant_to g user amount }
 {
-    Grant {
-        user,
-        point: g.point,
-        kind: g.kind,
-        first: g.first,
-        last: g.last,
-        amount,
-    }
+    Grant { user, amount, ..g }
 }
 
 // The grant of an amount for the whole year, as an annual one from 1 October.
+#[tactic(auto, unfolding(calendar::specs::Answers::year_answer))]
 pub(crate) fn year_grant(year: u16, user: u8, point: u8, amount: u32) -> Grant
     requires { is_thermal_year year ≡ true }
     ensures { result ≡ grant_for year user point amount }
 {
-    let span = calendar::thermal_year(year);
-    match span {
-        Span::Days(first, last) => Grant {
-            user,
-            point,
-            kind: 1,
-            first,
-            last,
-            amount,
-        },
-        Span::OutsideCalendar => Grant {
-            user,
-            point,
-            kind: 1,
-            first: 0,
-            last: 0,
-            amount,
-        },
+    let span = calendar::thermal_year(year).unwrap();
+    Grant {
+        user,
+        point,
+        kind: 1,
+        first: span.first,
+        last: span.last,
+        amount,
     }
 }

@@ -1,45 +1,35 @@
-use mathlib.Core.Path.{◌≡◌, refl, ap, ◌∙◌}
+use mathlib.Core.Path.{◌≡◌, ap, ◌∙◌}
 use Prim.Native.Nat.{◌≤◌}
 use lib.ListN.{length}
+use Rattle.std.proofs.lemmas.List.{length_push}
+use Rattle.std.proofs.lemmas.Slice.Zip.{zip_turn, zip_end}
 use Rattle.parts.specs.Limits.{most_amount}
 use Rattle.parts.specs.Registers.{state}
 use Rattle.batches.specs.Steps.{book_some}
-use Rattle.batches.proofs.LoopLaws.{grant_to_lem, none_booked, post_more, post_most, sum_booked}
+use Rattle.batches.proofs.LoopLaws.{grant_to_lem, post_more, post_most, sum_booked}
 use native.Mathlib.Omega.{arith}
 use borrow.Author.Rules.{rules}
 use Rattle.batches.proofs.conferring.book_shares.Goals as goal
 
-pub loop-i-init : goal.loop-i-init
-loop-i-init c =
-    (omega arith, (refl, (omega arith, none_booked c.args.r c.args.free.now c.args.ledger.now c.args.point c.args.users.now c.args.shares.now)))
-
 pub overflow_add-sum : goal.overflow_add-sum
 overflow_add-sum c =
+    let t = zip_turn c.args.b.users.now c.args.shares.now c.loop-user.yielded c.into_iter-user-iterator.result c.loop-user.user-iterator c.next.new.self c.next.result (search rules) (search rules) c.loop-user.yielded_by (c.in-Some.user, c.in-Some.share) c.in-Some.is c.next.ensures.steps in
     let booked_most : c.post-posted.result.amount ≤ most_amount = post_most _ _ _ _ _ _ _ _ _ c.post-posted.ensures in
-    record { fits = omega (arith, c.loop-i.invariant.1.1.0, c.loop-i-test.true, c.requires.1.1.1, booked_most) }
+    omega (arith, c.loop-user.invariant.0, t.0, c.requires.1.1.1, booked_most)
 
-pub overflow_add-i : goal.overflow_add-i
-overflow_add-i c = record { fits = omega (arith, c.loop-i-test.true, c.requires.1.1.1) }
-
-pub loop-i-smaller : goal.loop-i-smaller
-loop-i-smaller c = omega arith
-
-pub loop-i-preserved : goal.loop-i-preserved
-loop-i-preserved c =
+pub loop-user-preserved : goal.loop-user-preserved
+loop-user-preserved c =
+    let t = zip_turn c.args.b.users.now c.args.shares.now c.loop-user.yielded c.into_iter-user-iterator.result c.loop-user.user-iterator c.next.new.self c.next.result (search rules) (search rules) c.loop-user.yielded_by (c.in-Some.user, c.in-Some.share) c.in-Some.is c.next.ensures.steps in
     let booked_most : c.post-posted.result.amount ≤ most_amount = post_most _ _ _ _ _ _ _ _ _ c.post-posted.ensures in
-    let g = grant_to_lem c.args.r.year c.args.point _ _ _ _ c.year_grant-whole.ensures c.grant_to-g.ensures in (
-      omega (arith, c.loop-i-test.true),
-      (
-        search rules,
-        (
-          omega (arith, c.loop-i.invariant.1.1.0, booked_most),
-          post_more c.args.r _ _ _ _ c.args.point c.args.users.now c.args.shares.now _ _ _ _ _ _ _ c.requires.0 c.requires.1.0 c.loop-i.invariant.1.1.1 g c.post-posted.ensures,
-        ),
-      ),
+    let g = grant_to_lem c.args.r.year c.args.b.point _ _ _ _ c.year_grant-whole.ensures c.grant_to-g.ensures in
+    rw length_push (
+      omega (arith, c.loop-user.invariant.0, booked_most),
+      post_more c.args.r _ _ _ _ c.args.b.point c.args.b.users.now c.args.shares.now _ _ _ _ _ _ _ c.requires.0 c.requires.1.0 c.loop-user.invariant.1 (rw (t.2 0, t.3 0) at g) c.post-posted.ensures,
     )
 
 pub returns : goal.returns
 returns c =
-    let e : c.loop-i.i ≡ length c.args.users.now = omega arith in
-    sum_booked c.args.r _ c.args.free.now c.args.ledger.now _ _ c.args.point c.args.users.now c.args.shares.now _ _ _ c.requires.0 c.days_of_year-days.ensures c.take_free.ensures c.loop-i.invariant.1.1.1
-    ∙ ap (book_some (state c.args.r c.args.free.now c.args.ledger.now) c.args.r.year c.args.point c.args.users.now c.args.shares.now) e
+    let n = zip_end c.args.b.users.now c.args.shares.now c.loop-user.yielded c.into_iter-user-iterator.result c.loop-user.user-iterator c.next.new.self c.next.result (search rules) (search rules) c.loop-user.yielded_by c.in-None.is c.next.ensures.steps in
+    let e : length c.loop-user.yielded ≡ length c.args.b.users.now = omega (arith, n, c.requires.1.1.0) in
+    sum_booked c.args.r _ c.args.free.now c.args.ledger.now _ _ c.args.b.point c.args.b.users.now c.args.shares.now _ _ _ c.requires.0 c.days_of_year-days.ensures c.take_free.ensures c.loop-user.invariant.1
+    ∙ ap (book_some (state c.args.r c.args.free.now c.args.ledger.now) c.args.r.year c.args.b.point c.args.b.users.now c.args.shares.now) e
