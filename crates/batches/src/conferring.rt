@@ -22,7 +22,7 @@ fn batch_answer(v: View, b: Batch, shares: usize, numbers: usize) -> Result<(), 
     if !register::in_order(v) {
         return Err(Refusal::NotInOrder);
     }
-    if !(((b.point as usize) < register::POINTS) & b.lengths_fit(shares, numbers)) {
+    if !(register::names_point(b.point) & b.lengths_fit(shares, numbers)) {
         return Err(Refusal::OutOfLimits);
     }
     let p = v.register.points[b.point as usize];

@@ -46,10 +46,10 @@ impl Grant {
     fn has_fields_within_limits(self) -> bool
         ensures { result ≡ every (field_tests self) }
     {
-        (self.user < USERS)
-            & (self.point < POINTS)
+        register::names_user(self.user)
+            & register::names_point(self.point)
             & ((1 <= self.kind) & (self.kind <= 3))
-            & ((1 <= self.amount) & (self.amount <= register::MOST_AMOUNT))
+            & register::is_amount(self.amount as u64)
     }
 
     // Whether all fields are within limits, the span among them.

@@ -24,9 +24,9 @@ pub(crate) struct GatheredLine {
 // kinds it takes a fifth longer than everyday Rust, where the lists take a fifth less.
 #[derive(Drop)]
 pub(crate) struct Gathered {
-    pub firsts: [u16; 2048],
-    pub lasts: [u16; 2048],
-    pub amounts: [i32; 2048],
+    pub firsts: [u16; register::LINES],
+    pub lasts: [u16; register::LINES],
+    pub amounts: [i32; register::LINES],
     pub count: usize,
     pub base: i64,
 }
@@ -126,9 +126,9 @@ pub(crate) fn gather(year: u16, n: usize, ledger: &[u32], h: Holding) -> Gathere
 {
     let bounds = bounds_of(year);
     let mut gathered = Gathered {
-        firsts: [0; 2048],
-        lasts: [0; 2048],
-        amounts: [0; 2048],
+        firsts: [0; register::LINES],
+        lasts: [0; register::LINES],
+        amounts: [0; register::LINES],
         count: 0,
         base: 0,
     };

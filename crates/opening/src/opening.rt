@@ -24,9 +24,9 @@ impl Opening {
     fn is_within_limits(self) -> bool
         ensures { result ≡ open_fields self.point self.kind self.total self.rate }
     {
-        ((self.point as usize) < register::POINTS)
+        register::names_point(self.point)
             & (((1 <= self.kind) & (self.kind <= 2))
-                & ((1 <= self.total) & (self.total <= register::MOST_AMOUNT as u64))
+                & register::is_amount(self.total)
                 & (self.rate <= register::MOST_RATE))
     }
 }

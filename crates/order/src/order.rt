@@ -21,7 +21,7 @@ use parts::{
 // Each point is tested, also after one that is not in order: `all` would ask after each whether to go on, and that costs more than
 // the tests that it spares.
 #[tactic(auto, using(crate::proofs::LoopLaws::all_tested), unfolding(crate::specs::Order::points_ok))]
-fn points_in_order(points: &[Point; 32]) -> bool
+fn points_in_order(points: &[Point; POINTS]) -> bool
     ensures { result ≡ points_ok points.now }
 {
     let mut ok = true;
@@ -33,7 +33,7 @@ fn points_in_order(points: &[Point; 32]) -> bool
 
 // Each account is tested, as the points are.
 #[tactic(auto, using(crate::proofs::LoopLaws::all_tested), unfolding(crate::specs::Order::accounts_ok))]
-fn accounts_in_order(accounts: &[Account; 64]) -> bool
+fn accounts_in_order(accounts: &[Account; USERS]) -> bool
     ensures { result ≡ accounts_ok accounts.now }
 {
     let mut ok = true;
@@ -57,7 +57,7 @@ fn all_within(row: &[u32], total: u32) -> bool
 
 // Each free amount is at most what can be free: for the 366th that depends on the year.
 #[tactic(auto, using(crate::proofs::LoopLaws::all_tested), unfolding(crate::specs::Order::table_ok))]
-fn table_in_order(points: &[Point; 32], days: usize, free: &[u32]) -> bool
+fn table_in_order(points: &[Point; POINTS], days: usize, free: &[u32]) -> bool
     requires { (length free.now ≡ table_length) × (365 ≤ days) }
     ensures { result ≡ table_ok days free.now points.now }
 {
@@ -82,11 +82,11 @@ fn month_first(year: u16, month: u8) -> u16
 }
 
 // Marks of the months' firsts, by the days from 1 October, found once for all lines.
-fn month_marks(year: u16, span: Span) -> [bool; 366]
+fn month_marks(year: u16, span: Span) -> [bool; ROW]
     requires { YearSpan year span.first span.last }
     ensures { Marked year 12 result }
 {
-    let mut marks = [false; 366];
+    let mut marks = [false; ROW];
     for n in 0..12 {
         let opens = month_first(year, n + 1);
         marks[(opens - span.first) as usize] = true;

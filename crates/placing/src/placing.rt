@@ -19,7 +19,7 @@ impl Guarantee {
     fn is_within_limits(self) -> bool
         ensures { result ≡ place_fields self.user self.guarantee }
     {
-        ((self.user as usize) < register::USERS) & (self.guarantee <= register::MOST_GUARANTEE)
+        register::names_user(self.user) & (self.guarantee <= register::MOST_GUARANTEE)
     }
 }
 

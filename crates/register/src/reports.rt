@@ -6,7 +6,7 @@ ghost use Rattle.register.specs.Reports.{report_number, report_amount};
 
 use amounts::entry_in;
 use order::in_order;
-use parts::{POINTS, Refusal, View};
+use parts::{Refusal, View, names_point};
 
 // Questions 1, 2, 3 and 8.
 #[tactic(auto, unfolding(crate::specs::Reports::report_number))]
@@ -16,7 +16,7 @@ fn report_answer(v: View, point: u8, day: u16) -> Result<(), Refusal>
     if !in_order(v) {
         return Err(Refusal::NotInOrder);
     }
-    if POINTS <= point as usize {
+    if !names_point(point) {
         return Err(Refusal::OutOfLimits);
     }
     if !v.register.points[point as usize].is_open() {

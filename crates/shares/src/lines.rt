@@ -15,7 +15,7 @@ use register::{Account, Point, Refusal, Register, answer_number};
 fn line_within_limits(user: u8, asked: u64) -> bool
     ensures { result ≡ line_fields user asked }
 {
-    (user < USERS) & ((1 <= asked) & (asked <= register::MOST_AMOUNT as u64))
+    register::names_user(user) & register::is_amount(asked)
 }
 
 // Questions 2, 14, 5 and 11 of a line, in a year of so many days: whether an earlier line names its user is known, and so are the

@@ -28,7 +28,7 @@ fn can_share(r: &Register, free: &[u32], b: Batch, shares: usize, numbers: usize
 {
     calendar::is_thermal_year(r.year)
         & (free.len() == register::TABLE)
-        & (((b.point as usize) < register::POINTS) & b.lengths_fit(shares, numbers))
+        & (register::names_point(b.point) & b.lengths_fit(shares, numbers))
 }
 
 // Shares out a batch: the shares and the numbers of its lines go to the two last lists. Whether it can be done at all is asked once.

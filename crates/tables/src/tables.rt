@@ -68,7 +68,7 @@ pub fn free_row(free: &mut [u32], i: u8, days: usize, p: Point)
 
 // The same of all points.
 #[tactic(auto, using(crate::proofs::TableLaws::table_turns))]
-pub fn free_table(free: &mut [u32], days: usize, points: [Point; 32])
+pub fn free_table(free: &mut [u32], days: usize, points: [Point; POINTS])
     ensures { free.new ≡ freed_table free.old days points }
 {
     for i in 0..POINTS {

@@ -24,7 +24,7 @@ fn turn_answer(v: View, year: u16) -> Result<(), Refusal>
 }
 
 // The accounts with their commitments at 0.
-fn settled_accounts(accounts: &[Account; 64]) -> [Account; 64]
+fn settled_accounts(accounts: &[Account; register::USERS]) -> [Account; register::USERS]
     ensures { result ≡ settled_accounts accounts.now }
 {
     accounts.map(|a| Account { commitment: 0, ..a })
