@@ -8,15 +8,18 @@ use native.Mathlib.Omega.{arith}
 use lib.Dec.{ltb}
 use lib.ListN.{get_or}
 use borrow.Author.Tests.{ltb-true, ltb-false, lt-ltb, le-ltb}
-use Rattle.calendar.specs.declared.thermal_years.Span.TheVariants.{Days, OutsideCalendar}
+use Rattle.std.specs.Prelude.{Some, None, Result, Ok, Err}
+use Rattle.calendar.specs.declared.thermal_years.Span.{Span}
 use Rattle.days.specs.Days.{between}
 use Rattle.days.proofs.Ranges.{and_left, and_right, Within, within}
 use Rattle.calendar.proofs.SpanLaws.{chosen, unchosen}
+use Rattle.parts.specs.declared.answers.Refusal.{Refusal}
 use Rattle.parts.specs.declared.registers.Register.{Register}
+use Rattle.parts.specs.Registers.{State}
 use Rattle.parts.specs.Limits.{point_count, user_count, most_amount}
 use Rattle.parts.specs.Tests.{all_below}
 use Rattle.amounts.specs.Ranges.{least_of}
-use Rattle.amounts.specs.Amounts.{span_days, entry_of, entry_in}
+use Rattle.amounts.specs.Amounts.{span_days, entry_in}
 use Rattle.parts.specs.Answers.{Question, number_of}
 use Rattle.amounts.proofs.CalendarLaws.{day_in_lem}
 use Rattle.amounts.proofs.AmountLaws.{entry_in_lem}
@@ -27,10 +30,8 @@ use Rattle.conferral.proofs.RoomLaws.{LimitFacts, covered_is}
 use Rattle.products.specs.declared.products.Product.{Product}
 use Rattle.products.specs.declared.products.Product.TheVariants.{Annual, Month, Day}
 use Rattle.products.specs.declared.products.Request.{Request}
-use Rattle.request_decision.specs.declared.deciding.Decision.{Decision}
-use Rattle.request_decision.specs.declared.deciding.Decision.TheVariants.{Confer, Refuse}
 use Rattle.products.specs.Products.{kind_of, month_ok, is_in_year}
-use Rattle.request_decision.specs.RequestQuestions.{request_fields, span_first, span_last, days_asked, span_place, account_of, grant_from, grant_of, charge_asked, is_free, free_throughout, amount_granted}
+use Rattle.request_decision.specs.RequestQuestions.{request_fields, span_first, span_last, span_of, days_asked, span_place, account_of, grant_of, charge_asked, is_free, free_throughout, amount_granted}
 use Rattle.products.specs.Products.{span_answer}
 use Rattle.request_decision.specs.Decisions.{Decides}
 use Rattle.request_decision.specs.Steps.{Spanned}
@@ -65,23 +66,22 @@ kind_within (Day d) = record { from = omega arith; to = omega arith }
 
 -- ---- question 8
 module _ (r : Register) (q : Request) where
-  pub spanned : (first last : ℕ) → span_answer r.year q.arrival q.product ≡ Days first last → Spanned r q first last
+  pub spanned : (days : Span) → span_answer r.year q.arrival q.product ≡ Some days → Spanned r q days
   unfolding span_answer
-  spanned first last e =
+  spanned days e =
       let m = month_ok q.product in
       let y = is_in_year r.year q.arrival q.product in
-      let t = chosen (m && y) (span_first r q) (span_last r q) first last e in
-      record { begins = t.1.0; ends = t.1.1; fits = and_right m y t.0 }
+      let t = chosen (m && y) (span_of r q) days e in
+      record { is = t.1; fits = and_right m y t.0 }
 
-  pub no_span : month_ok q.product ≡ true → span_answer r.year q.arrival q.product ≡ OutsideCalendar → is_in_year r.year q.arrival q.product ≡ false
+  pub no_span : month_ok q.product ≡ true → span_answer r.year q.arrival q.product ≡ None → is_in_year r.year q.arrival q.product ≡ false
   unfolding span_answer
   no_span m e =
       let y = is_in_year r.year q.arrival q.product in
-      sym (ap (λ (t : Bool). t && y) m) ∙ unchosen (month_ok q.product && y) (span_first r q) (span_last r q) e
+      sym (ap (λ (t : Bool). t && y) m) ∙ unchosen (month_ok q.product && y) (span_of r q) e
 
-  pub span_in : (first last : ℕ) → Spanned r q first last → SpanFacts r.year q.arrival first last
-  span_in first last w =
-      rw (w.begins, w.ends) (span_facts r.year q.arrival (span_first r q) (span_last r q) w.fits)
+  pub span_in : (days : Span) → Spanned r q days → SpanFacts r.year q.arrival days.first days.last
+  span_in days w = rw w.is (span_facts r.year q.arrival (span_first r q) (span_last r q) w.fits)
 
   -- ---- question 11
   -- the grant of what is asked, or of less, is within limits
@@ -113,24 +113,21 @@ some_least l at (suc n) m h =
 
 module _ (r : Register) (f : List ℕ) (q : Request) where
   -- the amount granted, as the code finds it
-  pub granted_is : (first last place : ℕ) → Spanned r q first last → place ≡ entry_in r.year q.point first → least_of f place (span_days first last) q.amount ≡ amount_granted r f q
+  pub granted_is : (days : Span) (place : ℕ) → Spanned r q days → place ≡ entry_in r.year q.point days.first
+      → least_of f place (span_days days.first days.last) q.amount ≡ amount_granted r f q
   unfolding amount_granted
-  granted_is first last place w e =
-      let s = span_in r q first last w in
-      let in_year = day_in_lem r.year first s.year s.fit.begins (omega (arith, s.fit.ordered, s.fit.ends)) in
-      let at = e ∙ entry_in_lem r.year q.point first in_year in
-      rw (at, w.ends) (ap (λ (d : ℕ). least_of f (entry_of r.year q.point d) (span_days d (span_last r q)) q.amount) w.begins)
+  granted_is days place w e =
+      let s = span_in r q days w in
+      let in_year = day_in_lem r.year days.first s.year s.fit.begins (omega (arith, s.fit.ordered, s.fit.ends)) in
+      let at = e ∙ entry_in_lem r.year q.point days.first in_year in
+      rw (at, w.is)
 
   pub granted_free : 0 < q.amount → ltb 0 (amount_granted r f q) ≡ free_throughout r f q
   unfolding amount_granted
   granted_free h = some_least f (span_place r q) (days_asked r q) q.amount h
 
 -- ---- decisions
--- a grant from the days of the span
-pub grant_is : (r : Register) (q : Request) (first last amount n : ℕ) (g : Grant) → Spanned r q first last → g ≡ grant_from q first last amount → amount ≡ n → g ≡ grant_of r q n
-grant_is r q first last amount n g w e h = e ∙ rw (w.begins, w.ends, h)
-
 -- what a decision says of some questions it says of others that give the same number
-pub decides_too : (qs rs : List Question) (r : Register) (f : List ℕ) (q : Request) (d : Decision) → number_of qs ≡ number_of rs → Decides qs r f q d → Decides rs r f q d
-decides_too qs rs r f q (Confer g) e h = (sym e ∙ h.0, h.1)
-decides_too qs rs r f q (Refuse why) e h = h ∙ e
+pub decides_too : (qs rs : List Question) (s : State) (q : Request) (d : Result Grant Refusal) → number_of qs ≡ number_of rs → Decides qs s q d → Decides rs s q d
+decides_too qs rs s q (Ok g) e h = (sym e ∙ h.0, h.1)
+decides_too qs rs s q (Err why) e h = h ∙ e

@@ -1,6 +1,6 @@
 // The questions put to a request, in order.
 ghost use Rattle.std.specs.Prelude.{◌≡◌, true};
-ghost use Rattle.parts.specs.Registers.{state};
+ghost use Rattle.parts.specs.Registers.{state_in};
 ghost use Rattle.request_decision.specs.RequestQuestions.{request_fields, grant_from, amount_questions, span_questions, request_questions};
 ghost use Rattle.request_decision.specs.Decisions.{Decides};
 ghost use Rattle.request_decision.specs.Steps.{Spanned};
@@ -8,104 +8,92 @@ ghost use Rattle.request_decision.specs.Steps.{Spanned};
 use calendar::Span;
 use conferral::Grant;
 use products::Request;
-use register::{Refusal, Register};
-
-// What is granted, or why nothing is.
-#[derive(Drop)]
-pub enum Decision {
-    Confer(Grant),
-    Refuse(Refusal),
-}
+use register::{Refusal, View};
 
 // Question 2.
 fn fields_within_limits(q: Request) -> bool
     ensures { result ≡ request_fields q }
 {
-    let product = q.product;
     ((q.point as usize) < register::POINTS)
         & ((q.user as usize) < register::USERS)
         & ((1 <= q.amount) & (q.amount <= register::MOST_AMOUNT as u64))
-        & products::is_month_within_limits(product)
+        & products::is_month_within_limits(q.product)
 }
 
-// The grant of an amount on each day from first to last.
-fn grant_from(q: Request, first: u16, last: u16, amount: u32) -> Grant
-    ensures { result ≡ grant_from q first last amount }
+// The grant of an amount on each day of a span.
+fn grant_from(q: Request, days: Span, amount: u32) -> Grant
+    ensures { result ≡ grant_from q days amount }
 {
-    let product = q.product;
     Grant {
         user: q.user,
         point: q.point,
-        kind: products::line_kind(product),
-        first,
-        last,
+        kind: products::line_kind(q.product),
+        first: days.first,
+        last: days.last,
         amount,
     }
 }
 
-// Questions 11, 12 and 13 of the days from first to last.
+// Questions 11, 12 and 13 of the days of the span.
 #[tactic(auto, using(crate::proofs::AmountTests::amount_tests))]
-fn decide_amount(r: Register, free: &[u32], q: Request, first: u16, last: u16) -> Decision
-    requires { (request_fields q ≡ true) × Spanned r q first last }
-    ensures { Decides (amount_questions r free.now q) r free.now q result }
+fn decide_amount(v: View, q: Request, days: Span) -> Result<Grant, Refusal>
+    requires { (request_fields q ≡ true) × Spanned (state_in v).register q days }
+    ensures { Decides (amount_questions (state_in v.entry) q) (state_in v.entry) q result }
 {
-    let asked = grant_from(q, first, last, q.amount as u32);
-    let places = last as usize + 1 - first as usize;
-    let place = register::entry_in(r.year, q.point, first);
-    let amount = register::least_free(free, place, places, asked.amount);
-    let granted = grant_from(q, first, last, amount);
+    let r = v.register;
+    let asked = grant_from(q, days, q.amount as u32);
+    let places = days.last as usize + 1 - days.first as usize;
+    let place = register::entry_in(r.year, q.point, days.first);
+    let amount = register::least_free(v.free, place, places, asked.amount);
+    let granted = grant_from(q, days, amount);
     // The guarantee has to cover what is asked, not only what is granted.
     if !conferral::is_covered(r, asked) {
-        return Decision::Refuse(Refusal::NotCovered);
+        return Err(Refusal::NotCovered);
     }
     if amount == 0 {
-        return Decision::Refuse(Refusal::NothingFree);
+        return Err(Refusal::NothingFree);
     }
     if register::LINES <= r.lines as usize {
-        return Decision::Refuse(Refusal::LedgerFull);
+        return Err(Refusal::LedgerFull);
     }
-    Decision::Confer(granted)
+    Ok(granted)
 }
 
 // Questions 8 and 9, and those that follow.
-fn decide_span(r: Register, free: &[u32], q: Request) -> Decision
+#[tactic(auto, using(crate::proofs::AmountTests::year_is_not))]
+fn decide_span(v: View, q: Request) -> Result<Grant, Refusal>
     requires { request_fields q ≡ true }
-    ensures { Decides (span_questions r free.now q) r free.now q result }
+    ensures { Decides (span_questions (state_in v.entry) q) (state_in v.entry) q result }
 {
-    let product = q.product;
-    let span = products::span_of(r.year, q.arrival, product);
-    match span {
-        Span::Days(first, last) => {
-            if !products::is_in_time(r.year, q.arrival, product) {
-                return Decision::Refuse(Refusal::Late);
-            }
-            decide_amount(r, free, q, first, last)
-        }
-        Span::OutsideCalendar => Decision::Refuse(Refusal::OutsideYear),
+    let year = v.register.year;
+    let Some(days) = products::span_of(year, q.arrival, q.product) else {
+        return Err(Refusal::OutsideYear);
+    };
+    if !products::is_in_time(year, q.arrival, q.product) {
+        return Err(Refusal::Late);
     }
+    decide_amount(v, q, days)
 }
 
-// Questions 1, 2, 3, 5 and 7, and those that follow.
-pub fn decide(r: Register, free: &[u32], ledger: &[u32], q: Request) -> Decision
-    ensures { Decides (request_questions (state r free.now ledger.now) q) r free.now q result }
+// Questions 1, 2, 3, 5 and 7, and those that follow: what is granted, or why nothing is.
+pub fn decide(v: View, q: Request) -> Result<Grant, Refusal>
+    ensures { Decides (request_questions (state_in v.entry) q) (state_in v.entry) q result }
 {
-    if !register::in_order(r, free, ledger) {
-        return Decision::Refuse(Refusal::NotInOrder);
+    if !register::in_order(v) {
+        return Err(Refusal::NotInOrder);
     }
     if !fields_within_limits(q) {
-        return Decision::Refuse(Refusal::OutOfLimits);
+        return Err(Refusal::OutOfLimits);
     }
-    let p = r.points[q.point as usize];
-    if !register::is_open(p) {
-        return Decision::Refuse(Refusal::PointClosed);
+    let p = v.register.points[q.point as usize];
+    if !p.is_open() {
+        return Err(Refusal::PointClosed);
     }
-    let a = r.accounts[q.user as usize];
-    if !register::is_on_file(a) {
-        return Decision::Refuse(Refusal::NotOnFile);
+    if !v.register.accounts[q.user as usize].is_on_file() {
+        return Err(Refusal::NotOnFile);
     }
-    let product = q.product;
-    if !products::is_offered(p, product) {
-        return Decision::Refuse(Refusal::NotOffered);
+    if !products::is_offered(p, q.product) {
+        return Err(Refusal::NotOffered);
     }
-    decide_span(r, free, q)
+    decide_span(v, q)
 }

@@ -6,4 +6,4 @@
 
 mod deciding;
 
-pub use deciding::{Decision, decide};
+pub use deciding::decide;

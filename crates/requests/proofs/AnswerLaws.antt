@@ -7,6 +7,7 @@ use Prim.Native.Nat.{ℕ, ◌+◌, ◌≤◌, ◌<◌}
 use native.Mathlib.Nat.{mul-le-mul}
 use native.Mathlib.Omega.{arith}
 use borrow.Author.Tests.{ltb-true, leb-true, eqb-true}
+use Rattle.std.specs.Prelude.{Ok, Err}
 use Rattle.parts.specs.declared.answers.Refusal.{Refusal}
 use Rattle.parts.specs.Limits.{line_count}
 use Rattle.parts.specs.Registers.{State}
@@ -18,7 +19,6 @@ use Rattle.conferral.specs.declared.bookings.Grant.{Grant}
 use Rattle.conferral.specs.Bookings.{charge_of, booked, has_room, book_after}
 use Rattle.conferral.proofs.RoomLaws.{Room, has_room_lem}
 use Rattle.products.specs.declared.products.Request.{Request}
-use Rattle.request_decision.specs.declared.deciding.Decision.TheVariants.{Confer, Refuse}
 use Rattle.products.specs.Products.{is_offered, is_in_year, is_in_time}
 use Rattle.request_decision.specs.RequestQuestions.{days_asked, span_place, point_of, account_of, charge_asked, free_throughout, request_questions, amount_granted, grant_of}
 use Rattle.requests.specs.RequestCapacity.{request_number, request_amount, request_after}
@@ -101,7 +101,7 @@ module _ (s : State) (q : Request) where
       leaves_new (request_number s q) (booked s (grant_of s.register q (amount_granted s.register s.free q))) s z
       ∙ ap (λ (n : ℕ). booked s (grant_of s.register q n)) (sym (accepted_amount z))
 
-  pub decided : (g : Grant) (t : State) → Decides (request_questions s q) s.register s.free q (Confer g) → t ≡ book_after s g
+  pub decided : (g : Grant) (t : State) → Decides (request_questions s q) s q (Ok g) → t ≡ book_after s g
       → (0 ≡ request_number s q) × ((g.amount ≡ request_amount s q) × (t ≡ request_after s q))
   unfolding request_number book_after
   decided g t d e =
@@ -122,7 +122,7 @@ module _ (s : State) (q : Request) where
   refused_after h =
       sym (leaves_old (request_number s q) (booked s (grant_of s.register q (amount_granted s.register s.free q))) s h)
 
-  pub refused : (why : Refusal) → Decides (request_questions s q) s.register s.free q (Refuse why)
+  pub refused : (why : Refusal) → Decides (request_questions s q) s q (Err why)
       → (number_of_refusal why ≡ request_number s q) × ((0 ≡ request_amount s q) × (s ≡ request_after s q))
   unfolding request_number
   refused why d =

@@ -2,21 +2,10 @@
 -- Assumes nothing.
 use Rattle.std.specs.Prelude.{ℕ}
 use Rattle.parts.specs.Registers.{State}
-use Rattle.parts.specs.Answers.{number_of_refusal, number_of, leaves}
+use Rattle.parts.specs.Answers.{number_of, leaves}
 use Rattle.conferral.specs.Bookings.{booked}
 use Rattle.products.specs.declared.products.Request.{Request}
 use Rattle.request_decision.specs.RequestQuestions.{grant_of, request_questions, amount_granted}
-use Rattle.requests.specs.declared.answers.Conferral.{Conferral}
-use Rattle.requests.specs.declared.answers.Conferral.TheVariants.{Granted, Refused}
-
--- the number and the amount of an answer: where the answer is no, "grant [..] 0"
-abbrev pub number_of_conferral : Conferral → ℕ
-number_of_conferral (Granted a) = 0
-number_of_conferral (Refused n) = number_of_refusal n
-
-abbrev pub amount_of_conferral : Conferral → ℕ
-amount_of_conferral (Granted a) = a
-amount_of_conferral (Refused n) = 0
 
 -- the number of the first question that is answered no
 unfoldable pub request_number : State → Request → ℕ

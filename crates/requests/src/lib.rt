@@ -5,9 +5,7 @@
 // that another crate can name has a `requires`. The meaning of each answer is in specs/.
 #![tactic(auto)]
 
-mod answers;
 mod requesting;
 
-pub use answers::{Conferral, Conferred, conferral_amount, conferral_number};
 pub use products::{Product, Request};
 pub use requesting::request_capacity;

@@ -1,0 +1,105 @@
+-- What the steps of the code come to, in the words of questions 8, 9 and 10 and of the charge: a law for each exit.
+-- Assumes nothing.
+use mathlib.Core.Path.{◌≡◌, refl, sym, ap, ◌∙◌}
+use mathlib.Core.Bool.{true, false, not}
+use Prim.Native.Nat.{ℕ, ◌<◌, ◌≤◌}
+use native.Mathlib.Omega.{arith}
+use Rattle.std.specs.Prelude.{Option, Some, None, is_some, Result}
+use Rattle.days.proofs.Ranges.{and_left}
+use Rattle.calendar.specs.declared.thermal_years.Span.{Span}
+use Rattle.calendar.specs.Answers.{own_answer}
+use Rattle.parts.specs.declared.answers.Refusal.{Refusal}
+use Rattle.parts.specs.declared.registers.Register.{Register}
+use Rattle.parts.specs.Limits.{user_count, most_amount}
+use Rattle.parts.specs.Registers.{State}
+use Rattle.order.specs.Order.{in_order}
+use Rattle.spans.specs.Spans.{arrives, span_fits, is_timely}
+use Rattle.spans.proofs.SpanLaws.{timely_own}
+use Rattle.conferral.specs.Bookings.{charge_within}
+use Rattle.holdings.specs.Holdings.{held_answer, is_throughout}
+use Rattle.holdings.proofs.HeldLaws.{lines_in}
+use Rattle.cession_decision.specs.declared.deciding.Cession.{Cession}
+use Rattle.cession_decision.specs.declared.deciding.Handover.{Handover}
+use Rattle.cession_decision.specs.CessionQuestions.{cession_fields, span_first, span_last, is_in_year, is_in_time, deadline, is_held, charge_of, charge_questions, held_questions, span_questions}
+use Rattle.cession_decision.specs.Decisions.{handover_of, Decides}
+use Rattle.cession_decision.specs.Steps.{Named, span_answer, Spanned, Lined}
+use Rattle.cession_decision.proofs.CessionLaws.{FieldFacts, fields, no_arrival, arrived_span, spanned, no_span, held_asks, charge_is, decides_too}
+
+-- ---- questions 1 and 2
+pub named : (c : Cession) → cession_fields c ≡ true → Named c
+unfolding Named
+named c h = h
+
+of_fields : (c : Cession) → Named c → FieldFacts c
+unfolding Named
+of_fields c h = fields c h
+
+pub ordered_lines : (s : State) → in_order s ≡ true → Lined s
+ordered_lines s h = lines_in s h
+
+pub ruleset order_tests = (named, ordered_lines)
+
+-- the two users and the point have their places, and the amount fits
+pub giver_in : (c : Cession) → Named c → c.giver < user_count
+giver_in c h = (of_fields c h).giver
+
+pub receiver_in : (c : Cession) → Named c → c.receiver < user_count
+receiver_in c h = (of_fields c h).receiver
+
+pub amount_in : (c : Cession) → Named c → c.amount ≤ most_amount
+amount_in c h = (of_fields c h).amount.to
+
+pub ruleset users_in = (giver_in, receiver_in)
+
+-- ---- question 8
+pub ruleset arrival_tests = (no_arrival, arrived_span)
+
+-- ---- questions 8 and 9
+module _ (r : Register) (c : Cession) where
+  pub year_is : (days : Span) → span_answer r.year c.arrival ≡ Some days → is_in_year r c ≡ true
+  year_is days e = (spanned r c days e).fits
+
+  -- the code's test of the deadline is question 9
+  pub time_is : (days : Span) → span_answer r.year c.arrival ≡ Some days → is_timely (own_answer c.arrival deadline) ≡ is_in_time c
+  time_is days e =
+      timely_own r.year c.arrival deadline (and_left (arrives r.year c.arrival) (span_fits r.year (span_first c) (span_last r)) (year_is days e)) refl
+
+-- then the questions that follow settle it
+pub settled_after : (s : State) (c : Cession) (days : Span) (d : Result Handover Refusal) → span_answer s.register.year c.arrival ≡ Some days
+    → is_timely (own_answer c.arrival deadline) ≡ true → Decides (held_questions s c) s.register c d → Decides (span_questions s c) s.register c d
+settled_after s c days d e t w =
+    decides_too (held_questions s c) (span_questions s c) s.register c d
+    (rw (year_is s.register c days e, sym (time_is s.register c days e) ∙ t))
+    w
+
+pub ruleset span_tests = (spanned, year_is, no_span, time_is, settled_after)
+
+-- ---- question 10
+short_if : (v : Option ℕ) → not (is_some v) ≡ is_throughout v
+short_if None = refl
+short_if (Some d) = refl
+
+-- whether the code finds a short day settles question 10
+module _ (s : State) (c : Cession) (days : Span) (w : Spanned s.register c days) (l : Lined s) where
+  abbrev found : Option ℕ
+  found = held_answer s.register.year s.register.lines s.ledger (record { user = c.giver; point = c.point; first = days.first; last = days.last; amount = c.amount })
+
+  pub held_is : not (is_some found) ≡ is_held s.register s.ledger c
+  held_is = short_if found ∙ held_asks s.register c days w s.ledger l found refl
+
+pub held_after : (s : State) (c : Cession) (d : Result Handover Refusal) → is_held s.register s.ledger c ≡ true
+    → Decides (charge_questions s.register c) s.register c d → Decides (held_questions s c) s.register c d
+held_after s c d h w = decides_too (charge_questions s.register c) (held_questions s c) s.register c d (rw h) w
+
+-- the charge, and what is handed over
+pub charged_is : (r : Register) (c : Cession) (days : Span) → Named c → Spanned r c days
+    → charge_within r (record { user = c.receiver; point = c.point; kind = 1; first = days.first; last = days.last; amount = c.amount }) ≡ charge_of r c
+charged_is r c days h w =
+    charge_is r c days 1 (of_fields c h) w (record { from = omega arith; to = omega arith }) _ refl
+
+pub handed : (r : Register) (c : Cession) (days : Span) → Spanned r c days → record { first = days.first; charge = charge_of r c } ≡ handover_of r c
+handed r c days w = rw w.is
+
+pub ruleset held_tests = (held_is, held_after, amount_in, handed)
+
+pub ruleset charge_tests = (charged_is, amount_in)
