@@ -6,10 +6,12 @@ use mathlib.Core.List.{List}
 use Prim.Native.Nat.{ℕ, ◌<◌}
 use lib.Dec.{ltb, eqb}
 use borrow.Author.Tests.{ltb-true, eqb-false, not-true}
-use Rattle.calendar.specs.declared.thermal_years.Span.TheVariants.{Days, OutsideCalendar}
+use Rattle.std.specs.Prelude.{Option, Some, None, Result, Ok, Err}
+use Rattle.calendar.specs.declared.thermal_years.Span.{Span}
 use Rattle.days.specs.Days.{between}
 use Rattle.days.proofs.Ranges.{and_left, and_right, Within, within}
 use Rattle.calendar.proofs.SpanLaws.{chosen, unchosen}
+use Rattle.parts.specs.declared.answers.Refusal.{Refusal}
 use Rattle.parts.specs.declared.registers.Register.{Register}
 use Rattle.parts.specs.Limits.{point_count, user_count, most_amount}
 use Rattle.parts.specs.Answers.{Question, number_of}
@@ -19,14 +21,12 @@ use Rattle.conferral.specs.Bookings.{charge_within}
 use Rattle.spans.proofs.SpanLaws.{SpanFacts, span_facts, arrival_year}
 use Rattle.conferral.proofs.RoomLaws.{charge_within_lem}
 use Rattle.holdings.specs.declared.holdings.Holding.{Holding}
-use Rattle.holdings.specs.declared.holdings.Held.{Held}
 use Rattle.holdings.specs.Holdings.{LinesIn, held_answer, is_throughout}
 use Rattle.holdings.proofs.HeldLaws.{held_answer_lem}
 use Rattle.cession_decision.specs.declared.deciding.Cession.{Cession}
-use Rattle.cession_decision.specs.declared.deciding.Decision.{Decision}
-use Rattle.cession_decision.specs.declared.deciding.Decision.TheVariants.{Cede, Refuse}
-use Rattle.cession_decision.specs.CessionQuestions.{cession_fields, span_first, span_last, is_in_year, given_of, is_held, charge_of}
-use Rattle.cession_decision.specs.Decisions.{handover_of, Decides}
+use Rattle.cession_decision.specs.declared.deciding.Handover.{Handover}
+use Rattle.cession_decision.specs.CessionQuestions.{cession_fields, span_first, span_last, span_of, is_in_year, given_of, is_held, charge_of}
+use Rattle.cession_decision.specs.Decisions.{Decides}
 use Rattle.cession_decision.specs.Steps.{span_answer, Spanned}
 
 -- ---- question 2
@@ -56,7 +56,7 @@ fields c h =
     }
 
 -- ---- question 8
-pub no_arrival : (y a : ℕ) → arrives y a ≡ false → OutsideCalendar ≡ span_answer y a
+pub no_arrival : (y a : ℕ) → arrives y a ≡ false → None ≡ span_answer y a
 unfolding span_answer
 no_arrival y a h = rw h
 
@@ -65,50 +65,46 @@ unfolding span_answer annual_answer
 arrived_span y a h = rw (h, arrival_year y a h)
 
 module _ (r : Register) (c : Cession) where
-  pub spanned : (first last : ℕ) → span_answer r.year c.arrival ≡ Days first last → Spanned r c first last
+  pub spanned : (days : Span) → span_answer r.year c.arrival ≡ Some days → Spanned r c days
   unfolding span_answer
-  spanned first last e =
-      let t = chosen (is_in_year r c) (span_first c) (span_last r) first last e in
-      record { begins = t.1.0; ends = t.1.1; fits = t.0 }
+  spanned days e =
+      let t = chosen (is_in_year r c) (span_of r c) days e in
+      record { is = t.1; fits = t.0 }
 
-  pub no_span : span_answer r.year c.arrival ≡ OutsideCalendar → is_in_year r c ≡ false
+  pub no_span : span_answer r.year c.arrival ≡ None → is_in_year r c ≡ false
   unfolding span_answer
-  no_span e = unchosen (is_in_year r c) (span_first c) (span_last r) e
+  no_span e = unchosen (is_in_year r c) (span_of r c) e
 
-  pub span_in : (first last : ℕ) → Spanned r c first last → SpanFacts r.year c.arrival first last
-  span_in first last w =
-      rw (w.begins, w.ends) (span_facts r.year c.arrival (span_first c) (span_last r) w.fits)
+  pub span_in : (days : Span) → Spanned r c days → SpanFacts r.year c.arrival days.first days.last
+  span_in days w = rw w.is (span_facts r.year c.arrival (span_first c) (span_last r) w.fits)
 
   -- ---- question 10
   -- what the giver is to hold, from the days of the span
-  pub given_is : (first last : ℕ) → Spanned r c first last → (h : Holding)
-      → h ≡ record { user = c.giver; point = c.point; first = first; last = last; amount = c.amount }
+  pub given_is : (days : Span) → Spanned r c days → (h : Holding)
+      → h ≡ record { user = c.giver; point = c.point; first = days.first; last = days.last; amount = c.amount }
       → h ≡ given_of r c
-  given_is first last w h e = e ∙ rw (w.begins, w.ends)
+  given_is days w h e = e ∙ rw w.is
 
-  pub held_asks : (first last : ℕ) → Spanned r c first last → (ls : List ℕ) → LinesIn r.year r.lines ls → (v : Held)
-      → v ≡ held_answer r.year r.lines ls (record { user = c.giver; point = c.point; first = first; last = last; amount = c.amount })
+  pub held_asks : (days : Span) → Spanned r c days → (ls : List ℕ) → LinesIn r.year r.lines ls → (v : Option ℕ)
+      → v ≡ held_answer r.year r.lines ls (record { user = c.giver; point = c.point; first = days.first; last = days.last; amount = c.amount })
       → is_throughout v ≡ is_held r ls c
-  held_asks first last w ls l v e =
-      ap is_throughout (e ∙ ap (held_answer r.year r.lines ls) (given_is first last w _ refl))
+  held_asks days w ls l v e =
+      ap is_throughout (e ∙ ap (held_answer r.year r.lines ls) (given_is days w _ refl))
       ∙ held_answer_lem r.year r.lines ls l (given_of r c)
 
   -- ---- the charge
-  pub charge_is : (first last kind : ℕ) → FieldFacts c → Spanned r c first last → Within 1 3 kind → (g : Grant)
-      → g ≡ record { user = c.receiver; point = c.point; kind = kind; first = first; last = last; amount = c.amount }
+  pub charge_is : (days : Span) (kind : ℕ) → FieldFacts c → Spanned r c days → Within 1 3 kind → (g : Grant)
+      → g ≡ record { user = c.receiver; point = c.point; kind = kind; first = days.first; last = days.last; amount = c.amount }
       → charge_within r g ≡ charge_of r c
-  charge_is first last kind f w k g e =
-      let s = span_in first last w in
+  charge_is days kind f w k g e =
+      let s = span_in days w in
       ap (charge_within r) e
-      ∙ charge_within_lem r (record { user = c.receiver; point = c.point; kind = kind; first = first; last = last; amount = c.amount })
+      ∙ charge_within_lem r (record { user = c.receiver; point = c.point; kind = kind; first = days.first; last = days.last; amount = c.amount })
       (record { year = s.year; fit = s.fit; user = f.receiver; point = f.point; kind = k; amount = f.amount })
-      ∙ rw (w.begins, w.ends)
-
-  pub handover_is : (first last n : ℕ) → Spanned r c first last → n ≡ charge_of r c → record { first = first; charge = n } ≡ handover_of r c
-  handover_is first last n w e = rw (w.begins, e)
+      ∙ rw w.is
 
 -- ---- decisions
 -- what a decision says of some questions it says of others that give the same number
-pub decides_too : (qs rs : List Question) (r : Register) (c : Cession) (d : Decision) → number_of qs ≡ number_of rs → Decides qs r c d → Decides rs r c d
-decides_too qs rs r c (Cede h) e d = (sym e ∙ d.0, d.1)
-decides_too qs rs r c (Refuse why) e d = d ∙ e
+pub decides_too : (qs rs : List Question) (r : Register) (c : Cession) (d : Result Handover Refusal) → number_of qs ≡ number_of rs → Decides qs r c d → Decides rs r c d
+decides_too qs rs r c (Ok h) e d = (sym e ∙ d.0, d.1)
+decides_too qs rs r c (Err why) e d = d ∙ e

@@ -1,1 +1,2 @@
 pub mod CessionLaws
+pub mod SpanTests

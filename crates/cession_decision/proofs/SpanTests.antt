@@ -1,8 +1,8 @@
 -- What the steps of the code come to, in the words of questions 8, 9 and 10 and of the charge: a law for each exit.
 -- Assumes nothing.
-use mathlib.Core.Path.{◌≡◌, refl, sym, ap, ◌∙◌}
-use mathlib.Core.Bool.{true, false, not}
-use Prim.Native.Nat.{ℕ, ◌<◌, ◌≤◌}
+use mathlib.Core.Path.{◌≡◌, refl, sym, ◌∙◌}
+use mathlib.Core.Bool.{true, not}
+use Prim.Native.Nat.{ℕ}
 use native.Mathlib.Omega.{arith}
 use Rattle.std.specs.Prelude.{Option, Some, None, is_some, Result}
 use Rattle.days.proofs.Ranges.{and_left}
@@ -10,7 +10,6 @@ use Rattle.calendar.specs.declared.thermal_years.Span.{Span}
 use Rattle.calendar.specs.Answers.{own_answer}
 use Rattle.parts.specs.declared.answers.Refusal.{Refusal}
 use Rattle.parts.specs.declared.registers.Register.{Register}
-use Rattle.parts.specs.Limits.{user_count, most_amount}
 use Rattle.parts.specs.Registers.{State}
 use Rattle.order.specs.Order.{in_order}
 use Rattle.spans.specs.Spans.{arrives, span_fits, is_timely}
@@ -22,34 +21,12 @@ use Rattle.cession_decision.specs.declared.deciding.Cession.{Cession}
 use Rattle.cession_decision.specs.declared.deciding.Handover.{Handover}
 use Rattle.cession_decision.specs.CessionQuestions.{cession_fields, span_first, span_last, is_in_year, is_in_time, deadline, is_held, charge_of, charge_questions, held_questions, span_questions}
 use Rattle.cession_decision.specs.Decisions.{handover_of, Decides}
-use Rattle.cession_decision.specs.Steps.{Named, span_answer, Spanned, Lined}
-use Rattle.cession_decision.proofs.CessionLaws.{FieldFacts, fields, no_arrival, arrived_span, spanned, no_span, held_asks, charge_is, decides_too}
+use Rattle.cession_decision.specs.Steps.{span_answer, Spanned, Lined}
+use Rattle.cession_decision.proofs.CessionLaws.{fields, no_arrival, arrived_span, spanned, no_span, held_asks, charge_is, decides_too}
 
--- ---- questions 1 and 2
-pub named : (c : Cession) → cession_fields c ≡ true → Named c
-unfolding Named
-named c h = h
-
-of_fields : (c : Cession) → Named c → FieldFacts c
-unfolding Named
-of_fields c h = fields c h
-
+-- ---- question 1
 pub ordered_lines : (s : State) → in_order s ≡ true → Lined s
 ordered_lines s h = lines_in s h
-
-pub ruleset order_tests = (named, ordered_lines)
-
--- the two users and the point have their places, and the amount fits
-pub giver_in : (c : Cession) → Named c → c.giver < user_count
-giver_in c h = (of_fields c h).giver
-
-pub receiver_in : (c : Cession) → Named c → c.receiver < user_count
-receiver_in c h = (of_fields c h).receiver
-
-pub amount_in : (c : Cession) → Named c → c.amount ≤ most_amount
-amount_in c h = (of_fields c h).amount.to
-
-pub ruleset users_in = (giver_in, receiver_in)
 
 -- ---- question 8
 pub ruleset arrival_tests = (no_arrival, arrived_span)
@@ -72,8 +49,6 @@ settled_after s c days d e t w =
     (rw (year_is s.register c days e, sym (time_is s.register c days e) ∙ t))
     w
 
-pub ruleset span_tests = (spanned, year_is, no_span, time_is, settled_after)
-
 -- ---- question 10
 short_if : (v : Option ℕ) → not (is_some v) ≡ is_throughout v
 short_if None = refl
@@ -92,14 +67,10 @@ pub held_after : (s : State) (c : Cession) (d : Result Handover Refusal) → is_
 held_after s c d h w = decides_too (charge_questions s.register c) (held_questions s c) s.register c d (rw h) w
 
 -- the charge, and what is handed over
-pub charged_is : (r : Register) (c : Cession) (days : Span) → Named c → Spanned r c days
+pub charged_is : (r : Register) (c : Cession) (days : Span) → cession_fields c ≡ true → Spanned r c days
     → charge_within r (record { user = c.receiver; point = c.point; kind = 1; first = days.first; last = days.last; amount = c.amount }) ≡ charge_of r c
 charged_is r c days h w =
-    charge_is r c days 1 (of_fields c h) w (record { from = omega arith; to = omega arith }) _ refl
+    charge_is r c days 1 (fields c h) w (record { from = omega arith; to = omega arith }) _ refl
 
 pub handed : (r : Register) (c : Cession) (days : Span) → Spanned r c days → record { first = days.first; charge = charge_of r c } ≡ handover_of r c
 handed r c days w = rw w.is
-
-pub ruleset held_tests = (held_is, held_after, amount_in, handed)
-
-pub ruleset charge_tests = (charged_is, amount_in)

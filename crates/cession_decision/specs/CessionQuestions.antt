@@ -2,6 +2,8 @@
 -- Assumes nothing.
 use Rattle.std.specs.Prelude.{ℕ, Bool, not, ◌&&◌, List, [], ◌∷◌, leb, ltb, eqb}
 use Rattle.days.specs.Days.{between}
+use Rattle.calendar.specs.declared.thermal_years.Span.{Span}
+use Rattle.calendar.specs.ThermalYears.{span}
 use Rattle.calendar.specs.Deadlines.{in_time_own}
 use Rattle.parts.specs.declared.points.Point.{Point}
 use Rattle.parts.specs.declared.accounts.Account.{Account}
@@ -49,6 +51,9 @@ span_first c = annual_first c.arrival
 abbrev pub span_last : Register → ℕ
 span_last r = annual_last r.year
 
+abbrev pub span_of : Register → Cession → Span
+span_of r c = span (span_first c) (span_last r)
+
 -- question 8: "Does arrival lie from 1 September Y to 30 September Y+1, and the span in the year with a day left?"
 abbrev pub is_in_year : Register → Cession → Bool
 is_in_year r c = span_ok r.year c.arrival (span_first c) (span_last r)
@@ -82,12 +87,12 @@ charge_questions r c =
     ∷ []
 
 -- question 10, then these
-abbrev pub held_questions : Register → List ℕ → Cession → List Question
-held_questions r ls c = 10 asks is_held r ls c ∷ charge_questions r c
+abbrev pub held_questions : State → Cession → List Question
+held_questions s c = 10 asks is_held s.register s.ledger c ∷ charge_questions s.register c
 
 -- questions 8 and 9, then these
-abbrev pub span_questions : Register → List ℕ → Cession → List Question
-span_questions r ls c = 8 asks is_in_year r c ∷ 9 asks is_in_time c ∷ held_questions r ls c
+abbrev pub span_questions : State → Cession → List Question
+span_questions s c = 8 asks is_in_year s.register c ∷ 9 asks is_in_time c ∷ held_questions s c
 
 -- questions 1, 2, 3 and 5, then these
 abbrev pub cession_questions : State → Cession → List Question
@@ -96,4 +101,4 @@ cession_questions s c =
     ∷ 2 asks cession_fields c
     ∷ 3 asks is_open (point_of s.register c)
     ∷ 5 asks both_on_file s.register c
-    ∷ span_questions s.register s.ledger c
+    ∷ span_questions s c

@@ -1,15 +1,14 @@
 // The questions put to a cession, in order, and what is decided.
 ghost use Rattle.std.specs.Prelude.{◌≡◌, true};
-ghost use Rattle.parts.specs.Registers.{state};
-ghost use Rattle.holdings.specs.Holdings.{LinesIn};
+ghost use Rattle.parts.specs.Registers.{state_in};
 ghost use Rattle.cession_decision.specs.CessionQuestions.{cession_fields, both_on_file, charge_of, charge_questions, held_questions, span_questions, cession_questions};
 ghost use Rattle.cession_decision.specs.Decisions.{handover_of, Decides};
-ghost use Rattle.cession_decision.specs.Steps.{span_answer, Spanned};
+ghost use Rattle.cession_decision.specs.Steps.{span_answer, Spanned, Lined};
 
 use calendar::Span;
 use conferral::Grant;
-use holdings::{Held, Holding};
-use register::{Refusal, Register};
+use holdings::Holding;
+use register::{Refusal, Register, View};
 
 // A cession at a point, which arrives on a gas-day: an amount from giver to receiver, on each day from the first of the month after
 // arrival to the year's end.
@@ -31,17 +30,10 @@ pub const ANNUAL: u8 = 1;
 pub const LINES_WRITTEN: usize = 2;
 
 // What an accepted cession needs: the first day of its lines and the charge that moves.
-#[derive(Drop)]
+#[derive(Clone, Copy)]
 pub struct Handover {
     pub first: u16,
     pub charge: u64,
-}
-
-// What is handed over, or why nothing is.
-#[derive(Drop)]
-pub enum Decision {
-    Cede(Handover),
-    Refuse(Refusal),
 }
 
 // Question 2.
@@ -54,30 +46,34 @@ fn fields_within_limits(c: Cession) -> bool
         & ((1 <= c.amount) & (c.amount <= register::MOST_AMOUNT as u64))
 }
 
-// Question 5.
-fn are_on_file(r: Register, c: Cession) -> bool
+// Question 5. This step and those that follow each ask that question 2 was answered yes. A type of its own for such a cession would
+// repeat its five fields, or hide them one name deeper in every step.
+fn are_on_file(r: &Register, c: Cession) -> bool
     requires { cession_fields c ≡ true }
-    ensures { result ≡ both_on_file r c }
+    ensures { result ≡ both_on_file r.now c }
 {
     let giver = r.accounts[c.giver as usize];
     let receiver = r.accounts[c.receiver as usize];
-    register::is_on_file(giver) & register::is_on_file(receiver)
+    giver.is_on_file() & receiver.is_on_file()
 }
 
 // Question 8: from the first of the month after arrival to the year's end, where that is answered yes.
-fn span_of(year: u16, arrival: u16) -> Span
+#[tactic(auto, using(crate::proofs::SpanTests::arrival_tests))]
+fn span_of(year: u16, arrival: u16) -> Option<Span>
     ensures { result ≡ span_answer year arrival }
 {
     if !conferral::is_arrival(year, arrival) {
-        return Span::OutsideCalendar;
+        return None;
     }
     conferral::annual_span(year, arrival)
 }
 
-// The charge of a cession on the days from first to last: that of an annual grant to the receiver.
-fn cession_charge(r: Register, c: Cession, first: u16, last: u16) -> u64
-    requires { (cession_fields c ≡ true) × Spanned r c first last }
-    ensures { result ≡ charge_of r c }
+// The charge of a cession on the days of the span: that of an annual grant to the receiver.
+#[tactic(auto, using(crate::proofs::SpanTests::charged_is))]
+fn cession_charge(r: &Register, c: Cession, days: Span) -> u64
+    requires fields { cession_fields c ≡ true }
+    requires span { Spanned r.now c days }
+    ensures { result ≡ charge_of r.now c }
 {
     conferral::charge_within(
         r,
@@ -85,88 +81,97 @@ fn cession_charge(r: Register, c: Cession, first: u16, last: u16) -> u64
             user: c.receiver,
             point: c.point,
             kind: ANNUAL,
-            first,
-            last,
+            first: days.first,
+            last: days.last,
             amount: c.amount as u32,
         },
     )
 }
 
 // Question 1 again, 11 and 13.
-fn decide_charge(r: Register, c: Cession, h: Handover) -> Decision
-    requires { (cession_fields c ≡ true) × (h ≡ handover_of r c) }
-    ensures { Decides (charge_questions r c) r c result }
+fn decide_charge(r: &Register, c: Cession, h: Handover) -> Result<Handover, Refusal>
+    requires fields { cession_fields c ≡ true }
+    requires handover { h ≡ handover_of r.now c }
+    ensures { Decides (charge_questions r.now c) r.now c result }
 {
     let giver = r.accounts[c.giver as usize];
     // What a giver holds was charged to him: a commitment below its charge is not in order.
     if giver.commitment < h.charge {
-        return Decision::Refuse(Refusal::NotInOrder);
+        return Err(Refusal::NotInOrder);
     }
     let receiver = r.accounts[c.receiver as usize];
     if !conferral::covers_charge(receiver, h.charge) {
-        return Decision::Refuse(Refusal::NotCovered);
+        return Err(Refusal::NotCovered);
     }
     if register::LINES < r.lines as usize + LINES_WRITTEN {
-        return Decision::Refuse(Refusal::LedgerFull);
+        return Err(Refusal::LedgerFull);
     }
-    Decision::Cede(h)
+    Ok(h)
 }
 
-// Question 10 of the days from first to last, and those that follow.
-fn decide_held(r: Register, ledger: &[u32], c: Cession, first: u16, last: u16) -> Decision
-    requires { (cession_fields c ≡ true) × (Spanned r c first last × LinesIn r.year r.lines ledger.now) }
-    ensures { Decides (held_questions r ledger.now c) r c result }
+// Question 10 of the days of the span, and those that follow.
+#[tactic(auto, using(crate::proofs::SpanTests::handed))]
+fn decide_held(v: View, c: Cession, days: Span) -> Result<Handover, Refusal>
+    requires fields { cession_fields c ≡ true }
+    requires span { Spanned (state_in v).register c days }
+    requires lines { Lined (state_in v) }
+    ensures { Decides (held_questions (state_in v.entry) c) (state_in v.entry).register c result }
 {
     let given = Holding {
         user: c.giver,
         point: c.point,
-        first,
-        last,
+        first: days.first,
+        last: days.last,
         amount: c.amount as u32,
     };
-    let held = holdings::first_short_day(r.year, r.lines, ledger, given);
-    match held {
-        Held::Throughout => {
-            let charge = cession_charge(r, c, first, last);
-            decide_charge(r, c, Handover { first, charge })
-        }
-        Held::ShortOn(_) => Decision::Refuse(Refusal::NotHeld),
+    let r = v.register;
+    if holdings::first_short_day(r.year, r.lines, v.ledger, given).is_some() {
+        return Err(Refusal::NotHeld);
     }
+    let charge = cession_charge(r, c, days);
+    decide_charge(
+        r,
+        c,
+        Handover {
+            first: days.first,
+            charge,
+        },
+    )
 }
 
 // Questions 8 and 9, and those that follow.
-fn decide_span(r: Register, ledger: &[u32], c: Cession) -> Decision
-    requires { (cession_fields c ≡ true) × LinesIn r.year r.lines ledger.now }
-    ensures { Decides (span_questions r ledger.now c) r c result }
+#[tactic(auto, using(crate::proofs::CessionLaws::no_span))]
+fn decide_span(v: View, c: Cession) -> Result<Handover, Refusal>
+    requires fields { cession_fields c ≡ true }
+    requires lines { Lined (state_in v) }
+    ensures { Decides (span_questions (state_in v.entry) c) (state_in v.entry).register c result }
 {
-    let span = span_of(r.year, c.arrival);
-    match span {
-        Span::Days(first, last) => {
-            if !conferral::is_timely(calendar::in_time_own_month(c.arrival, DEADLINE)) {
-                return Decision::Refuse(Refusal::Late);
-            }
-            decide_held(r, ledger, c, first, last)
-        }
-        Span::OutsideCalendar => Decision::Refuse(Refusal::OutsideYear),
+    let Some(days) = span_of(v.register.year, c.arrival) else {
+        return Err(Refusal::OutsideYear);
+    };
+    if !conferral::is_timely(calendar::in_time_own_month(c.arrival, DEADLINE)) {
+        return Err(Refusal::Late);
     }
+    decide_held(v, c, days)
 }
 
-// Questions 1, 2, 3 and 5, and those that follow: the whole decision.
-pub fn decide(r: Register, free: &[u32], ledger: &[u32], c: Cession) -> Decision
-    ensures { Decides (cession_questions (state r free.now ledger.now) c) r c result }
+// Questions 1, 2, 3 and 5, and those that follow: the whole decision, what is handed over or why nothing is.
+#[tactic(auto, using(crate::proofs::SpanTests::ordered_lines))]
+pub fn decide(v: View, c: Cession) -> Result<Handover, Refusal>
+    ensures { Decides (cession_questions (state_in v.entry) c) (state_in v.entry).register c result }
 {
-    if !register::in_order(r, free, ledger) {
-        return Decision::Refuse(Refusal::NotInOrder);
+    if !register::in_order(v) {
+        return Err(Refusal::NotInOrder);
     }
     if !fields_within_limits(c) {
-        return Decision::Refuse(Refusal::OutOfLimits);
+        return Err(Refusal::OutOfLimits);
     }
-    let p = r.points[c.point as usize];
-    if !register::is_open(p) {
-        return Decision::Refuse(Refusal::PointClosed);
+    let p = v.register.points[c.point as usize];
+    if !p.is_open() {
+        return Err(Refusal::PointClosed);
     }
-    if !are_on_file(r, c) {
-        return Decision::Refuse(Refusal::NotOnFile);
+    if !are_on_file(v.register, c) {
+        return Err(Refusal::NotOnFile);
     }
-    decide_span(r, ledger, c)
+    decide_span(v, c)
 }
