@@ -62,11 +62,10 @@ fn table_in_order(points: &[Point; POINTS], days: usize, free: &[u32]) -> bool
     ensures { result ≡ table_ok days free.now points.now }
 {
     let mut ok = true;
-    for i in 0..POINTS {
-        let p = points[i];
+    for (i, p) in points.iter().enumerate() {
         let at = ROW * i;
         let row = all_within(&free[at..at + 365], p.total);
-        let last = free[at + 365] <= capacity_on(days, p, 365);
+        let last = free[at + 365] <= capacity_on(days, *p, 365);
         ok = ok & (row & last);
     }
     ok

@@ -1,5 +1,4 @@
-use mathlib.Core.Path.{◌≡◌, sym, ◌∙◌}
-use Rattle.order.specs.Order.{line_test}
+use mathlib.Core.Path.{sym, ◌∙◌}
 use Rattle.parts.proofs.TestLaws.{all_next}
 use Rattle.order.proofs.OrderLaws.{in_year, mark_of, line_fields_lem, line_named, lines_fail, lines_short}
 use Rattle.order.proofs.order.lines_in_order.Goals as goal
@@ -17,10 +16,12 @@ bounds-marks-l c = mark_of _ _ _ _ c.requires (in_year _ _ c.line_at-l.result _ 
 
 pub returns-then-not-named_in_order : goal.returns-then-not-named_in_order
 returns-then-not-named_in_order c =
-    let tested : (c.named_in_order.result ≡ line_test c.args.r.now c.args.ledger.now c.loop-i.i) = line_named c.args.r.now _ _ _ _ _ c.requires c.line_at-l.ensures _ c.month_marks-marks.ensures _ _ c.fields_in_order.ensures c.if-not-fields_in_order.false c.named_in_order.ensures in
-    lines_fail _ _ _ c.loop-i-test.true (sym tested ∙ c.if-not-named_in_order.true)
+    lines_fail _ _ _ c.loop-i-test.true
+    (sym (line_named c.args.r.now _ _ _ _ _ c.requires c.line_at-l.ensures _ c.month_marks-marks.ensures _ _ c.fields_in_order.ensures c.if-not-fields_in_order.false c.named_in_order.ensures)
+    ∙ c.if-not-named_in_order.true)
 
 pub loop-i-preserved : goal.loop-i-preserved
 loop-i-preserved c =
-    let tested : (c.named_in_order.result ≡ line_test c.args.r.now c.args.ledger.now c.loop-i.i) = line_named c.args.r.now _ _ _ _ _ c.requires c.line_at-l.ensures _ c.month_marks-marks.ensures _ _ c.fields_in_order.ensures c.if-not-fields_in_order.false c.named_in_order.ensures in
-    all_next _ _ c.loop-i.invariant (sym tested ∙ c.if-not-named_in_order.false)
+    all_next _ _ c.loop-i.invariant
+    (sym (line_named c.args.r.now _ _ _ _ _ c.requires c.line_at-l.ensures _ c.month_marks-marks.ensures _ _ c.fields_in_order.ensures c.if-not-fields_in_order.false c.named_in_order.ensures)
+    ∙ c.if-not-named_in_order.false)
