@@ -6,8 +6,7 @@ use Rattle.opening.proofs.opening.open_point.Goals as goal
 
 pub overflow_cast-p : goal.overflow_cast-p
 overflow_cast-p c =
-    let told = facts (state c.args.r c.args.free.now c.args.ledger.now) _ _ _ _ (zero_number _ _ _ c.open_answer.ensures c.in_default.is) in
-    omega (arith, told.point_open.total.to)
+    omega (arith, (facts (state c.args.r c.args.free.now c.args.ledger.now) _ _ _ _ (zero_number _ _ _ c.open_answer.ensures c.in_default.is)).point_open.total.to)
 
 pub with_free_point-requires : goal.with_free_point-requires
 with_free_point-requires c =

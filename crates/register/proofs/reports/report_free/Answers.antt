@@ -7,10 +7,8 @@ use Rattle.register.proofs.reports.report_free.Goals as goal
 -- the entry lies in the table
 pub offset_bounds-v-entry_in : goal.offset_bounds-v-entry_in
 offset_bounds-v-entry_in c =
-    let within = report_entry (state_in c.args.v) c.args.point c.args.day (zero_number _ _ _ c.report_answer.ensures c.in_ok-report_answer.was) in
-    omega (arith, c.entry_in.ensures, within)
+    omega (arith, c.entry_in.ensures, report_entry (state_in c.args.v) _ _ (zero_number _ _ _ c.report_answer.ensures c.in_ok-report_answer.was))
 
 pub bounds-v-entry_in : goal.bounds-v-entry_in
 bounds-v-entry_in c =
-    let within = report_entry (state_in c.args.v) c.args.point c.args.day (zero_number _ _ _ c.report_answer.ensures c.in_ok-report_answer.was) in
-    omega (arith, c.entry_in.ensures, within)
+    omega (arith, c.entry_in.ensures, report_entry (state_in c.args.v) _ _ (zero_number _ _ _ c.report_answer.ensures c.in_ok-report_answer.was))
