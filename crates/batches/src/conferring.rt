@@ -109,10 +109,7 @@ pub fn confer_batch(
         ledger,
     };
     if let Err(why) = batch_answer(v, b, shares.len(), numbers.len()) {
-        return Answered {
-            register: r,
-            answer: Err(why),
-        };
+        return Answered::refused(r, why);
     }
     let next = confer_lines(r, free, ledger, b, shares, numbers);
     Answered {

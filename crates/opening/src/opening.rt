@@ -75,10 +75,7 @@ pub fn open_point(r: Register, free: &mut [u32], ledger: &[u32], o: Opening) -> 
         ledger,
     };
     if let Err(why) = open_answer(v, o) {
-        return Answered {
-            register: r,
-            answer: Err(why),
-        };
+        return Answered::refused(r, why);
     }
     let p = Point {
         kind: o.kind,

@@ -60,6 +60,21 @@ pub struct Answered<T> {
     pub answer: Result<T, Refusal>,
 }
 
+impl<T> Answered<T> {
+    ghost use Rattle.std.specs.Prelude.{Err};
+
+    // What a refused call gives back: the register comes back as it was.
+    pub fn refused(register: Register, why: Refusal) -> Answered<T>
+        ensures register { result.register ≡ register }
+        ensures answer { result.answer ≡ Err why }
+    {
+        Answered {
+            register,
+            answer: Err(why),
+        }
+    }
+}
+
 // 0 where a call is accepted, else the number of the question that was answered no.
 pub fn answer_number<T>(answer: &Result<T, Refusal>) -> u8
     ensures { result ≡ number_of_answer answer.now }

@@ -66,10 +66,7 @@ pub fn place_guarantee(r: Register, free: &[u32], ledger: &[u32], g: Guarantee) 
         ledger,
     };
     if let Err(why) = place_answer(v, g) {
-        return Answered {
-            register: r,
-            answer: Err(why),
-        };
+        return Answered::refused(r, why);
     }
     Answered {
         register: with_user_on_file(r, g),

@@ -26,10 +26,7 @@ pub fn fresh_register(year: u16, free: &mut [u32], ledger: &mut [u32]) -> Answer
     ensures state { state result.register free.new ledger.new ≡ fresh_after year free.old ledger.old }
 {
     if let Err(why) = fresh_answer(year, free, ledger) {
-        return Answered {
-            register: blank(0),
-            answer: Err(why),
-        };
+        return Answered::refused(blank(0), why);
     }
     clear(free);
     clear(ledger);

@@ -54,10 +54,7 @@ pub fn turn_year(r: Register, free: &mut [u32], ledger: &mut [u32], year: u16) -
         ledger,
     };
     if let Err(why) = turn_answer(v, year) {
-        return Answered {
-            register: r,
-            answer: Err(why),
-        };
+        return Answered::refused(r, why);
     }
     register::free_table(free, register::days_of_year(year), r.points);
     register::clear(ledger);
