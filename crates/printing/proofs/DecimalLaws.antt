@@ -1,17 +1,15 @@
 -- The decimal text of a number has digits only, says the number, and begins with no 0 but for 0 itself.
 -- Assumes nothing.
-use Prim.Native.Nat.{ℕ, zero, suc, ◌+◌, ◌-◌, ◌*◌, ◌/◌, ◌%◌, ◌^◌, ◌≤◌, ◌<◌}
-use mathlib.Core.Path.{◌≡◌, refl, ap}
+use Prim.Native.Nat.{ℕ, zero, suc, ◌+◌, ◌-◌, ◌*◌, ◌/◌, ◌^◌, ◌≤◌, ◌<◌}
+use mathlib.Core.Path.{◌≡◌, refl}
 use mathlib.Core.List.{List, [], ◌∷◌, ◌++◌}
 use mathlib.Core.Bool.{Bool, true, false, cond}
 use native.Mathlib.Nat.{pow-suc}
 use native.Mathlib.Omega.{arith}
 use lib.ListN.{length, get_or, length-append, get_or-append}
 use lib.Dec.{ltb}
-use borrow.Author.Tests.{lt-ltb, le-ltb, ltb-true, ltb-false}
-use Rattle.std.specs.Fmt.{decimal as std_decimal}
-use Rattle.std.proofs.lemmas.Fmt.{AppendsLastDigit, decimal_from_appends, length-decimal-le}
-use Rattle.printing.specs.Lines.{last_digit, decimal_in, decimal}
+use borrow.Author.Tests.{ltb-true, ltb-false}
+use Rattle.printing.specs.Lines.{last_digit, decimal_in}
 
 -- every byte of a text is a digit, "0" to "9" in ASCII
 abbrev pub OnlyDigits : List ℕ → Type 0
@@ -73,27 +71,3 @@ lead (suc k) n h l = go (ltb n 10) refl (lead k (n / 10))
         let b : 10 ≤ n = ltb-false n 10 e in
         let s : 0 < length (decimal_in k (n / 10)) = omega (arith, some k (n / 10)) in
         rw (get_or-append (decimal_in k (n / 10)) (last_digit n ∷ []) 0 0 s) (i (omega arith) (tenth (10 ^ suc k) n (rw pow-suc at l)))
-
--- it is the text that the library writes
-appended : ℕ → ℕ → List ℕ
-appended zero n = []
-appended (suc k) n = decimal_in k n
-
-digit : (n : ℕ) → n < 10 → last_digit n ≡ 48 + n
-digit n h = omega arith
-
-by_digits : AppendsLastDigit appended
-unfolding appended decimal_in
-by_digits = record { one = one; more = more }
-  where
-    one : (k n : ℕ) → n < 10 → decimal_in k n ≡ (48 + n) ∷ []
-    one zero n h = ap (λ (d : ℕ). d ∷ []) (digit n h)
-    one (suc k) n h = rw (lt-ltb n 10 h) (ap (λ (d : ℕ). d ∷ []) (digit n h))
-
-    more : (k n : ℕ) → 10 ≤ n → decimal_in k n ≡ appended k (n / 10) ++ ((48 + n % 10) ∷ [])
-    more zero n h = refl
-    more (suc k) n h = rw (le-ltb n 10 h)
-
-pub decimal_is_std : (n : ℕ) → n < 10 ^ 10 → decimal n ≡ std_decimal n
-unfolding appended
-decimal_is_std n h = decimal_from_appends appended by_digits 10 n (omega arith) (length-decimal-le 10 n (omega arith) h (omega arith))

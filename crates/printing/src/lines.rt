@@ -1,34 +1,57 @@
 // Position, number and amount in decimal, by one space.
 //
-// A `write!` of the line would answer a `Result` of which no clause of std says that it is `Ok` where there is room; tried so, the proof
-// that a line is always whole does not close. The digits are the library's, and the bytes are copied.
-ghost use Rattle.std.specs.Prelude.{◌≡◌, ◌+◌, ◌≤◌, length};
+// The digits are written here: a `write!` of the line would answer a `Result` of which no clause of std says that it is `Ok` where there
+// is room, so that the proof that a line is always whole does not close (tried), and the proved crates stand on no crate for it.
+ghost use Rattle.std.specs.Prelude.{◌≡◌, ◌+◌, ◌≤◌, ◌<◌, length, set};
 ghost use Rattle.std.proofs.lemmas.List.Edits.{sets};
-ghost use Rattle.printing.specs.Lines.{ended_by, answer_line, bytes_with, place_after};
-
-use itoa::Buffer;
+ghost use Rattle.printing.specs.Lines.{last_digit, decimal_in, ended_by, answer_line, bytes_with, place_after};
 
 // No line is longer: three numbers of at most ten digits and the bytes that end them.
 pub const LINE: usize = 33;
 
+// Digits that a number of 32 bits can have before its last one.
+const MORE_DIGITS: usize = 9;
+
+fn last_digit(n: u32) -> u8
+    ensures { result ≡ last_digit n }
+{
+    48 + (n % 10) as u8
+}
+
+fn put_byte(b: u8, out: &mut [u8], at: usize) -> usize
+    requires { at < length out.old }
+    ensures place { result ≡ at + 1 }
+    ensures bytes { out.new ≡ set out.old at b }
+{
+    out[at] = b;
+    at + 1
+}
+
+// Writes a number in decimal, in at most `more` digits and the last one.
+fn put_decimal(n: u32, more: usize, out: &mut [u8], at: usize) -> usize
+    requires { at + more < length out.old }
+    ensures place { result ≡ at + length (decimal_in more n) }
+    ensures bytes { out.new ≡ sets out.old at (decimal_in more n) }
+{
+    if (n < 10) | (more == 0) {
+        return put_byte(last_digit(n), out, at);
+    }
+    let next = put_decimal(n / 10, more - 1, out, at);
+    put_byte(last_digit(n), out, next)
+}
+
 // Writes a number in decimal and a byte after it.
-#[tactic(auto, using(crate::proofs::WritingLaws::number_length, crate::proofs::WritingLaws::number_bytes))]
 fn put_number(n: u32, end: u8, out: &mut [u8], at: usize) -> usize
     requires { at + 11 ≤ length out.old }
     ensures place { result ≡ at + length (ended_by n end) }
     ensures bytes { out.new ≡ sets out.old at (ended_by n end) }
     ensures bound { result ≤ at + 11 }
 {
-    let mut buffer = Buffer::new();
-    let digits = buffer.format(n).as_bytes();
-    let next = at + digits.len();
-    out[at..next].copy_from_slice(digits);
-    out[next] = end;
-    next + 1
+    let next = put_decimal(n, MORE_DIGITS, out, at);
+    put_byte(end, out, next)
 }
 
 // Writes the three numbers of a line.
-#[tactic(auto, using(crate::proofs::WritingLaws::line_length, crate::proofs::WritingLaws::line_bytes))]
 fn put_numbers(position: u32, number: u32, amount: u32, out: &mut [u8], at: usize) -> usize
     requires { at + 33 ≤ length out.old }
     ensures place { result ≡ at + length (answer_line position number amount) }
