@@ -12,7 +12,9 @@ use Rattle.cession_decision.specs.CessionQuestions.{span_first, charge_of}
 abbrev pub handover_of : Register → Cession → Handover
 handover_of r c = record { first = span_first c; charge = charge_of r c }
 
--- what a decision says where these questions are left to ask: the number of the first "no", or what is handed over
+-- what a decision says where these questions are left to ask: the number of the first "no", or what is handed over.
+-- A request is decided alike (`request_decision`). One definition of any answer would not replace the two: each would still have to say
+-- what is granted or handed over
 abbrev pub Decides : List Question → Register → Cession → Result Handover Refusal → Type 0
 Decides qs r c (Ok h) = (number_of qs ≡ 0) × (h ≡ handover_of r c)
 Decides qs r c (Err why) = number_of_refusal why ≡ number_of qs

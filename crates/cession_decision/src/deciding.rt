@@ -24,7 +24,7 @@ pub struct Cession {
 // A cession arrives by this working day of a month.
 const DEADLINE: u8 = 16;
 
-// The kind of the ledger lines that it writes, and how many they are.
+// The kind of the ledger lines that it writes, a number as the lent ledger has it, and how many they are.
 pub const ANNUAL: u8 = 1;
 
 pub const LINES_WRITTEN: usize = 2;
@@ -40,10 +40,10 @@ pub struct Handover {
 fn fields_within_limits(c: Cession) -> bool
     ensures { result ≡ cession_fields c }
 {
-    ((c.point as usize) < register::POINTS)
-        & (((c.giver as usize) < register::USERS) & ((c.receiver as usize) < register::USERS))
+    register::names_point(c.point)
+        & (register::names_user(c.giver) & register::names_user(c.receiver))
         & (c.giver != c.receiver)
-        & ((1 <= c.amount) & (c.amount <= register::MOST_AMOUNT as u64))
+        & register::is_amount(c.amount)
 }
 
 // Question 5. This step and those that follow each ask that question 2 was answered yes. A type of its own for such a cession would

@@ -9,6 +9,7 @@ use native.Mathlib.Omega.{arith}
 use lib.IntN.{pos, neg_ℤ}
 use borrow.Author.Tests.{ltb-true, leb-true, eqb-true}
 use Rattle.days.proofs.Ranges.{and_left, and_right}
+use Rattle.std.specs.Prelude.{Ok, Err}
 use Rattle.parts.specs.declared.answers.Refusal.{Refusal}
 use Rattle.ledger.specs.declared.ledger.Line.{Line}
 use Rattle.parts.specs.declared.registers.Register.{Register}
@@ -20,7 +21,6 @@ use Rattle.order.proofs.OrderFacts.{InOrder, ordered}
 use Rattle.parts.proofs.AnswerLaws.{passes, passed, refusal_number, leaves_new, leaves_old}
 use Rattle.cession_decision.specs.declared.deciding.Cession.{Cession}
 use Rattle.cession_decision.specs.declared.deciding.Handover.{Handover}
-use Rattle.cession_decision.specs.declared.deciding.Decision.TheVariants.{Cede, Refuse}
 use Rattle.cession_decision.specs.CessionQuestions.{point_of, giver_of, receiver_of, is_in_year, is_in_time, is_held, charge_of, cession_questions}
 use Rattle.cession_decision.specs.Decisions.{handover_of, Decides}
 use Rattle.cession_decision.proofs.CessionLaws.{FieldFacts, fields}
@@ -79,7 +79,7 @@ module _ (s : State) (c : Cession) where
   unfolding cession_after
   accepted_after z = leaves_new (cession_number s c) (ceded s c) s z
 
-  pub decided_zero : (h : Handover) → Decides (cession_questions s c) s.register c (Cede h) → cession_number s c ≡ 0
+  pub decided_zero : (h : Handover) → Decides (cession_questions s c) s.register c (Ok h) → cession_number s c ≡ 0
   unfolding cession_number
   decided_zero h d = d.0
 
@@ -93,7 +93,7 @@ module _ (s : State) (c : Cession) where
   unfolding ceded
   ceded_as h minus plus rv m eh less more written moved = rw (moved, written, less, more, eh)
 
-  pub decided : (h : Handover) (t : State) → Decides (cession_questions s c) s.register c (Cede h) → t ≡ ceded s c
+  pub decided : (h : Handover) (t : State) → Decides (cession_questions s c) s.register c (Ok h) → t ≡ ceded s c
       → (0 ≡ cession_number s c) × ((c.amount ≡ cession_amount s c) × (t ≡ cession_after s c))
   decided h t d e =
       let z = decided_zero h d in
@@ -108,7 +108,7 @@ module _ (s : State) (c : Cession) where
   unfolding cession_after
   refused_after h = sym (leaves_old (cession_number s c) (ceded s c) s h)
 
-  pub refused : (why : Refusal) → Decides (cession_questions s c) s.register c (Refuse why)
+  pub refused : (why : Refusal) → Decides (cession_questions s c) s.register c (Err why)
       → (number_of_refusal why ≡ cession_number s c) × ((0 ≡ cession_amount s c) × (s ≡ cession_after s c))
   unfolding cession_number
   refused why d =

@@ -6,21 +6,10 @@ use Rattle.parts.specs.declared.registers.Register.{Register}
 use Rattle.parts.specs.Registers.{State, state, account_at, with_lines, with_account}
 use Rattle.ledger.specs.Ledger.{with_line}
 use Rattle.parts.specs.Charges.{discharged}
-use Rattle.parts.specs.Answers.{number_of_refusal, number_of, leaves}
+use Rattle.parts.specs.Answers.{number_of, leaves}
 use Rattle.conferral.specs.Bookings.{with_charge}
 use Rattle.cession_decision.specs.declared.deciding.Cession.{Cession}
 use Rattle.cession_decision.specs.CessionQuestions.{span_first, charge_of, cession_questions}
-use Rattle.cessions.specs.declared.answers.CessionAnswer.{CessionAnswer}
-use Rattle.cessions.specs.declared.answers.CessionAnswer.TheVariants.{Amount, Refused}
-
--- the number and the amount of an answer: "amount granted or ceded (else 0)"
-abbrev pub number_of_answer : CessionAnswer → ℕ
-number_of_answer (Amount a) = 0
-number_of_answer (Refused n) = number_of_refusal n
-
-abbrev pub amount_of_answer : CessionAnswer → ℕ
-amount_of_answer (Amount a) = a
-amount_of_answer (Refused n) = 0
 
 unfoldable pub cession_number : State → Cession → ℕ
 cession_number s c = number_of (cession_questions s c)

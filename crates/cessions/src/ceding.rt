@@ -2,29 +2,28 @@
 ghost use Rattle.std.specs.Prelude.{◌≡◌, true, ◌≤◌, ◌+◌};
 ghost use Rattle.parts.specs.Limits.{line_count, most_guarantee};
 ghost use Rattle.parts.specs.Registers.{state, with_lines};
+ghost use Rattle.parts.specs.Answers.{number_of_answer, amount_of_answer};
 ghost use Rattle.conferral.specs.Bookings.{covers};
 ghost use Rattle.cession_decision.specs.CessionQuestions.{cession_fields, receiver_of};
-ghost use Rattle.cessions.specs.CedeCapacity.{number_of_answer, amount_of_answer, charge_moved, annual_line, with_two_lines, cession_number, cession_amount, cession_after};
+ghost use Rattle.cessions.specs.CedeCapacity.{charge_moved, annual_line, with_two_lines, cession_number, cession_amount, cession_after};
 
-use crate::answers::{Ceded, CessionAnswer};
-use cession_decision::{Cession, Decision};
-use register::{Line, Register};
+use cession_decision::Cession;
+use register::{Answered, Line, Register, View};
 
 // The register with a charge moved from the commitment of the giver to that of the receiver, and two lines more.
-fn moved_register(r: Register, c: Cession, charge: u64) -> Register
-    requires { (cession_fields c ≡ true) × (((receiver_of r c).guarantee ≤ most_guarantee) ×
-        ((covers (receiver_of r c) charge ≡ true) × (r.lines + 2 ≤ line_count))) }
+fn moved_register(mut r: Register, c: Cession, charge: u64) -> Register
+    requires fields { cession_fields c ≡ true }
+    requires guarantee { (receiver_of r c).guarantee ≤ most_guarantee }
+    requires covered { covers (receiver_of r c) charge ≡ true }
+    requires lines { r.lines + 2 ≤ line_count }
     ensures { result ≡ with_lines (charge_moved r c charge) (r.lines + 2) }
 {
-    let mut s = r;
-    let giver = s.accounts[c.giver as usize];
-    let receiver = s.accounts[c.receiver as usize];
-    let lowered = giver.discharged(charge);
-    let raised = receiver.charged(charge);
-    s.accounts[c.giver as usize] = lowered;
-    s.accounts[c.receiver as usize] = raised;
-    s.lines = r.lines + cession_decision::LINES_WRITTEN as u16;
-    s
+    let lowered = r.accounts[c.giver as usize].discharged(charge);
+    let raised = r.accounts[c.receiver as usize].charged(charge);
+    r.accounts[c.giver as usize] = lowered;
+    r.accounts[c.receiver as usize] = raised;
+    r.lines += cession_decision::LINES_WRITTEN as u16;
+    r
 }
 
 // An annual ledger line.
@@ -44,35 +43,37 @@ fn annual_line(user: u8, point: u8, first: u16, amount: i32) -> Line
 fn write_two_lines(ledger: &mut [u32], n: u16, before: Line, after: Line)
     ensures { ledger.new ≡ with_two_lines ledger.old n before after }
 {
-    let next = n as usize;
-    register::write_line(ledger, next, before);
-    register::write_line(ledger, next + 1, after);
+    register::write_line(ledger, n as usize, before);
+    register::write_line(ledger, n as usize + 1, after);
 }
 
 // Cedes an amount: its charge moves from the giver's commitment to the receiver's, and two annual lines are written, minus then
-// plus. The free amounts don't move.
-pub fn cede_capacity(r: Register, free: &mut [u32], ledger: &mut [u32], c: Cession) -> Ceded
+// plus. The free amounts don't move: they are lent as to every other call, since the C interface lends all calls the same.
+pub fn cede_capacity(r: Register, free: &mut [u32], ledger: &mut [u32], c: Cession) -> Answered<u32>
     ensures number { number_of_answer result.answer ≡ cession_number (state r free.old ledger.old) c }
     ensures amount { amount_of_answer result.answer ≡ cession_amount (state r free.old ledger.old) c }
     ensures state { state result.register free.new ledger.new ≡ cession_after
         (state r free.old ledger.old) c }
 {
-    let decision = cession_decision::decide(r, &free[..], &ledger[..], c);
-    match decision {
-        Decision::Cede(h) => {
+    let v = View {
+        register: &r,
+        free,
+        ledger,
+    };
+    match cession_decision::decide(v, c) {
+        Ok(h) => {
             let amount = c.amount as i32;
             let minus = annual_line(c.giver, c.point, h.first, -amount);
             let plus = annual_line(c.receiver, c.point, h.first, amount);
             write_two_lines(ledger, r.lines, minus, plus);
-            let moved = moved_register(r, c, h.charge);
-            Ceded {
-                register: moved,
-                answer: CessionAnswer::Amount(c.amount as u32),
+            Answered {
+                register: moved_register(r, c, h.charge),
+                answer: Ok(c.amount as u32),
             }
         }
-        Decision::Refuse(why) => Ceded {
+        Err(why) => Answered {
             register: r,
-            answer: CessionAnswer::Refused(why),
+            answer: Err(why),
         },
     }
 }

@@ -5,9 +5,7 @@
 // that another crate can name has a `requires`. The meaning of each answer is in specs/.
 #![tactic(auto)]
 
-mod answers;
 mod ceding;
 
-pub use answers::{Ceded, CessionAnswer, cession_amount, cession_number};
 pub use ceding::cede_capacity;
 pub use cession_decision::Cession;

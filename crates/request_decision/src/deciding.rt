@@ -14,9 +14,9 @@ use register::{Refusal, View};
 fn fields_within_limits(q: Request) -> bool
     ensures { result ≡ request_fields q }
 {
-    ((q.point as usize) < register::POINTS)
-        & ((q.user as usize) < register::USERS)
-        & ((1 <= q.amount) & (q.amount <= register::MOST_AMOUNT as u64))
+    register::names_point(q.point)
+        & register::names_user(q.user)
+        & register::is_amount(q.amount)
         & products::is_month_within_limits(q.product)
 }
 
