@@ -29,9 +29,6 @@ pub fn request_capacity(
             register: conferral::book(r, free, ledger, granted),
             answer: Ok(granted.amount),
         },
-        Err(why) => Answered {
-            register: r,
-            answer: Err(why),
-        },
+        Err(why) => Answered::refused(r, why),
     }
 }

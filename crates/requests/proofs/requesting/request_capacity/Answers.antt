@@ -12,4 +12,4 @@ returns-in-Ok c =
 pub returns-in-Err : goal.returns-in-Err
 returns-in-Err c =
     let w = refused (state c.args.r c.args.free.now c.args.ledger.now) c.args.q c.in-Err.why c.in-Err.ensures in
-    record { number = w.0; amount = w.1.0; state = w.1.1 }
+    rw (c.refused.ensures.answer, c.refused.ensures.register) (record { number = w.0; amount = w.1.0; state = w.1.1 })
