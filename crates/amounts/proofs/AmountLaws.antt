@@ -50,8 +50,20 @@ days_facts y s h =
       days = ap₂ span_days w.begins w.ends ∙ sym (days_of_lem y w.year);
     }
 
-pub no_year_days : (y : ℕ) → year_answer y ≡ None → 0 ≡ days_of_year y
-no_year_days y h = sym (no_days y (no_year y h))
+-- each of them, by name
+pub year_ends : (y : ℕ) (s : Span) → year_answer y ≡ Some s → s.last ≤ 36524
+year_ends y s h = (days_facts y s h).last
+
+pub year_ordered : (y : ℕ) (s : Span) → year_answer y ≡ Some s → s.first ≤ s.last
+year_ordered y s h = (days_facts y s h).ordered
+
+pub year_counted : (y : ℕ) (s : Span) → year_answer y ≡ Some s → days_of_year y ≡ s.last + 1 - s.first
+year_counted y s h = sym (days_facts y s h).days
+
+pub no_year_days : (y : ℕ) → year_answer y ≡ None → days_of_year y ≡ 0
+no_year_days y h = no_days y (no_year y h)
+
+pub ruleset days_of_years = (year_ends, year_ordered, year_counted, no_year_days)
 
 -- the entry of a day of the year
 pub entry_in_lem : (y p d : ℕ) → in_thermal_year y d ≡ true → entry_in y p d ≡ entry_of y p d
@@ -63,16 +75,18 @@ unfolding entry_in
 entry_out y p d h = rw h
 
 -- the same, as the calendar answers the year's span
-pub entry_within : (y p d : ℕ) (s : Span) → year_answer y ≡ Some s → between s.first s.last d ≡ true → entry_at p (d - s.first) ≡ entry_in y p d
+pub entry_within : (y p d : ℕ) (s : Span) → year_answer y ≡ Some s → between s.first s.last d ≡ true → entry_in y p d ≡ entry_at p (d - s.first)
 entry_within y p d s h t =
     let w = year_span y s h in
-    ap (λ (n : ℕ). entry_at p (d - n)) w.begins ∙ sym (entry_in_lem y p d (in_year y s.first s.last d true w t))
+    entry_in_lem y p d (in_year y s.first s.last d true w t) ∙ sym (ap (λ (n : ℕ). entry_at p (d - n)) w.begins)
 
-pub entry_beyond : (y p d : ℕ) (s : Span) → year_answer y ≡ Some s → between s.first s.last d ≡ false → table_length ≡ entry_in y p d
-entry_beyond y p d s h t = sym (entry_out y p d (in_year y s.first s.last d false (year_span y s h) t))
+pub entry_beyond : (y p d : ℕ) (s : Span) → year_answer y ≡ Some s → between s.first s.last d ≡ false → entry_in y p d ≡ table_length
+entry_beyond y p d s h t = entry_out y p d (in_year y s.first s.last d false (year_span y s h) t)
 
-pub entry_nowhere : (y p d : ℕ) → year_answer y ≡ None → table_length ≡ entry_in y p d
-entry_nowhere y p d h = sym (entry_out y p d (in_no_year y d (no_year y h)))
+pub entry_nowhere : (y p d : ℕ) → year_answer y ≡ None → entry_in y p d ≡ table_length
+entry_nowhere y p d h = entry_out y p d (in_no_year y d (no_year y h))
+
+pub ruleset entries = (entry_within, entry_beyond, entry_nowhere)
 
 -- a day of the year, and one after its end
 pub capacity_in : (days : ℕ) (p : Point) (k : ℕ) → k < days → capacity days p k ≡ p.total

@@ -110,18 +110,7 @@ replaced_within l at n g = go (dec_lt (length l - at) n)
         ∙ ap (λ (k : ℕ). replaced l at k g) t
     go (no h) = let m : min n (length l - at) ≡ n = omega arith in ap (λ (k : ℕ). replaced l at k g) m
 
--- a loop over the places that lie in the list has done the whole run
-pub replaced_done : {A : Type 0} (t l : List A) (at n k m : ℕ) (g : ℕ → A) → m ≡ min n (length l - at) → k ≤ m → m ≤ k
-    → t ≡ replaced l at k g → t ≡ replaced l at n g
-replaced_done t l at n k m g hm a b e =
-    let c : k ≡ min n (length l - at) = omega (arith, hm, a, b) in
-    e ∙ ap (λ (j : ℕ). replaced l at j g) c ∙ replaced_within l at n g
-
 -- ---- the smallest
-pub least_none : (l : List ℕ) (at m : ℕ) → m ≡ least_of l at 0 m
-unfolding least_of
-least_none l at m = refl
-
 pub least_more : (l : List ℕ) (at m n : ℕ) → least_of l at (n + 1) m ≡ min (least_of l at n m) (get_or l (at + n) 0)
 unfolding least_of
 least_more l at m n = rw (add-one n)
@@ -147,10 +136,6 @@ least_past l at m n p h =
     let z : get_or l (at + (n - 1)) 0 ≡ 0 = get_or-eq_default l 0 (omega arith) in
     let b = least_at l at m n (n - 1) (omega arith) in
     omega (arith, b, z)
-
--- a turn of the loop, and its end
-pub least_step : (l : List ℕ) (at m n x y : ℕ) → x ≡ least_of l at n m → y ≡ min x (get_or l (at + n) 0) → y ≡ least_of l at (n + 1) m
-least_step l at m n x y e h = h ∙ ap (λ (z : ℕ). min z (get_or l (at + n) 0)) e ∙ sym (least_more l at m n)
 
 -- it is the number or one of the run
 pub least_is : (l : List ℕ) (at m n : ℕ) → (least_of l at n m ≡ m) ⊎ ((k : ℕ) × ((k < n) × (get_or l (at + k) 0 ≡ least_of l at n m)))

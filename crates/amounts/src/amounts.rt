@@ -5,6 +5,7 @@ ghost use Rattle.amounts.specs.Amounts.{days_of_year, entry_at, entry_in, capaci
 use parts::{Point, ROW, TABLE};
 
 // The gas-days of a thermal year; a year that has none has 0 of them, which is no sentinel.
+#[tactic(auto, using(crate::proofs::AmountLaws::days_of_years))]
 pub fn days_of_year(year: u16) -> usize
     ensures { result ≡ days_of_year year }
 {
@@ -23,6 +24,7 @@ fn entry_at(point: u8, k: u16) -> usize
 
 // The entry of a gas-day of a thermal year, for a point; for a day outside the year the place after the table's end. No `Option`: what
 // reads or writes the table finds nothing there, as past the end of any list, and its callers would only say so once more.
+#[tactic(auto, using(crate::proofs::AmountLaws::entries))]
 pub fn entry_in(year: u16, point: u8, day: u16) -> usize
     ensures { result ≡ entry_in year point day }
 {

@@ -72,12 +72,14 @@ abbrev pub month_named : ℕ → ℕ → Month
 month_named y k = record { year = calendar_year y k; month = calendar_month k }
 
 -- the span of a month of a thermal year is that of the month of the calendar that it is
-pub month_answered : (y k : ℕ) (m : Month) → calendar_answer y k ≡ Some m → span_of_month m.year m.month ≡ month_answer y k
+pub month_answered : (y k : ℕ) (m : Month) → calendar_answer y k ≡ Some m → month_answer y k ≡ span_of_month m.year m.month
 unfolding calendar_answer span_of_month month_answer thermal_month_first thermal_month_last
 month_answered y k m h =
     let r = chosen (is_thermal_month y k) (month_named y k) m h in
     rw (r.0, r.1, is_month_lem (calendar_year y k) (calendar_month k) (calendar_month_lem y k (month_of_test 2098 y k r.0)))
 
-pub month_unanswered : (y k : ℕ) → calendar_answer y k ≡ None → None ≡ month_answer y k
+pub month_unanswered : (y k : ℕ) → calendar_answer y k ≡ None → month_answer y k ≡ None
 unfolding calendar_answer month_answer
 month_unanswered y k h = rw (unchosen (is_thermal_month y k) (month_named y k) h)
+
+pub ruleset month_answers = (month_answered, month_unanswered)

@@ -25,6 +25,7 @@ fn in_calendar(number: u32) -> Option<u16>
 }
 
 // The first of the month after a gas-day.
+#[tactic(auto, using(crate::proofs::DeadlineLaws::next_named), unfolding(crate::specs::Answers::next_first_answer))]
 pub fn next_first(day: u16) -> Option<u16>
     ensures { result ≡ next_first_answer day }
 {
@@ -43,6 +44,7 @@ fn in_time_by(arrival: u16, deadline: u16) -> Timeliness
 }
 
 // Whether an arrival is in time by the n-th working day of its own month, for n from 1 to 18.
+#[tactic(auto, using(crate::proofs::AnswerLaws::own_answers))]
 pub fn in_time_own_month(arrival: u16, n: u8) -> Option<Timeliness>
     ensures { result ≡ own_answer arrival n }
 {
@@ -54,6 +56,7 @@ pub fn in_time_own_month(arrival: u16, n: u8) -> Option<Timeliness>
 }
 
 // The n-th working day of the month before a month of a thermal year: before month 1, October, comes September.
+#[tactic(auto, using(crate::proofs::AnswerLaws::preceding_days))]
 fn preceding_deadline(year: u16, month: u8, n: u8) -> Option<u16>
     ensures { result ≡ preceding_day year month n }
 {
@@ -61,6 +64,7 @@ fn preceding_deadline(year: u16, month: u8, n: u8) -> Option<u16>
 }
 
 // Whether an arrival is in time by the n-th working day, for n from 1 to 18, of the month before a month of a thermal year.
+#[tactic(auto, using(crate::proofs::AnswerLaws::preceding_answers))]
 pub fn in_time_preceding_month(arrival: u16, year: u16, month: u8, n: u8) -> Option<Timeliness>
     ensures { result ≡ preceding_answer arrival year month n }
 {

@@ -102,7 +102,7 @@ fn month_span(month: Month) -> Option<Span>
 }
 
 // The first and the last day of a month of a thermal year: month 1 is October.
-#[tactic(auto, using(crate::proofs::SpanLaws::month_answered))]
+#[tactic(auto, using(crate::proofs::SpanLaws::month_answers))]
 pub fn thermal_month(year: u16, month: u8) -> Option<Span>
     ensures { result ≡ month_answer year month }
 {

@@ -119,6 +119,15 @@ date_on y m r h l =
     let e : 12 - m ≡ suc (12 - (m + 1)) = omega arith in
     rw (e, le-ltb r (month_length y m) l)
 
+-- the turns of the walk, for a loop
+pub ruleset date_turns = (date_here, date_on, january, year_from, month_next)
+
+-- what is left of the year after its eleventh month is less than December
+pub december_left : (n y m r : ℕ) → y ≡ year_of n → m ≡ 12 → month_start y m + r ≡ n → r < 31
+december_left n y m r hy hm h =
+    let e : month_start (year_of n) 12 + r ≡ n = cc in
+    omega (arith, e, year_until n, year_end (year_of n) (year_of_least n), month_next (year_of n) 12 (omega arith), december (year_of n))
+
 -- the date found from the first of month m on has the right number
 from_day : (k y m r : ℕ) → 1 ≤ m → day_of (date_from y m r k) ≡ month_start y m + r
 unfolding date_from

@@ -1,6 +1,6 @@
 -- A date as it is printed: 2024-03-31.
 -- Assumes nothing.
-use Rattle.std.specs.Prelude.{ℕ, ◌+◌, ◌-◌, ◌^◌, false, List, [], ◌∷◌, ◌++◌}
+use Rattle.std.specs.Prelude.{ℕ, ◌-◌, ◌^◌, false, List, [], ◌∷◌, ◌++◌}
 use Rattle.std.specs.Fmt.{decimal, padded_integral, format_spec}
 use Rattle.days.specs.declared.dates.Date.{Date}
 

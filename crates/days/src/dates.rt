@@ -87,6 +87,7 @@ impl Month {
     }
 
     // The days of the months of the year before it.
+    #[tactic(auto, using(crate::proofs::DateLaws::days_with), unfolding(crate::specs::Days::days_before))]
     fn days_before(self) -> u32
         ensures value { result ≡ days_before self.year (self.month - 1) }
         ensures upper_bound { result < 2 ^ 16 }
@@ -177,6 +178,7 @@ impl Date {
 }
 
 // The date of any day number, also of one past the calendar's end.
+#[tactic(auto, using(crate::proofs::DateLaws::date_turns), unfolding(crate::specs::Days::date_of, crate::specs::Days::year_of, crate::specs::Days::date_from))]
 pub fn date_at(day: u16) -> Date
     ensures { result ≡ date_of day }
 {
@@ -202,6 +204,7 @@ pub fn date_at(day: u16) -> Date
 }
 
 // The date of a gas-day.
+#[tactic(auto, unfolding(crate::specs::Answers::date_answer))]
 pub fn date_of(day: u16) -> Option<Date>
     ensures { result ≡ date_answer day }
 {

@@ -17,6 +17,7 @@ pub struct Register {
 }
 
 // A register with no point open, no user on file and no line. Nowhere else is a register written as a literal.
+#[tactic(auto, unfolding(crate::specs::Registers::blank_register))]
 pub fn blank(year: u16) -> Register
     ensures { result ≡ blank_register year }
 {

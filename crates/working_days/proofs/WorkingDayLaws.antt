@@ -208,3 +208,8 @@ counted_next y m e total d k s l w =
 
 pub counted_all : (y m e total d k : ℕ) → Counted y m e total d k → e ≤ d → k ≡ total
 counted_all y m e total d k s l = omega (arith, s.sum, none_left y m d e l)
+
+-- of the two walks: where they begin, what is found, and that a byte counts the days that they pass
+pub ruleset sought_turns = (sought_day, sought_left, sought_here)
+
+pub ruleset counted_turns = (counted_none, month_most)

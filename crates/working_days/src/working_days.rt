@@ -107,6 +107,7 @@ pub fn day_type(day: u16) -> Option<DayType>
 }
 
 // The number of working days of a month, also of one outside the calendar.
+#[tactic(auto, using(crate::proofs::WorkingDayLaws::counted_turns))]
 fn count_of_month(month: Month) -> u8
     ensures { result ≡ working_count month.year month.month }
 {
@@ -134,7 +135,7 @@ pub fn working_days_of(month: Month) -> Option<u8>
 
 // The n-th working day of a month that has so many, by its day of the month. No `for`: that would test for the month's end, and
 // that each month has at least 18 working days is shown, not tested for at run time.
-#[tactic(auto, using(crate::proofs::WorkingDayLaws::sought_here))]
+#[tactic(auto, using(crate::proofs::WorkingDayLaws::sought_turns))]
 fn nth_of_month(month: Month, n: u8) -> u8
     requires some { 1 ≤ n }
     requires few { n ≤ working_count month.year month.month }

@@ -2,7 +2,7 @@
 -- The year is found by one division. The loop goes through its months: the date sought is that which is `rest` days after the first of
 -- `month`. In December fewer than 31 days are left.
 -- Assumes nothing.
-use Prim.Native.Nat.{◌+◌, ◌-◌, ◌≤◌}
+use Prim.Native.Nat.{◌+◌, ◌-◌}
 use mathlib.Core.Path.{◌≡◌}
 use Rattle.days.specs.Days.{date_of, date_from, year_of, month_start}
 use Rattle.days.proofs.dates.date_at.Given as goal

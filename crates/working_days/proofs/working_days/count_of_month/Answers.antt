@@ -1,15 +1,8 @@
 use mathlib.Core.Path.{sym, ◌∙◌}
 use native.Mathlib.Omega.{arith}
-use Rattle.days.proofs.DateLaws.{month_most}
-use Rattle.working_days.proofs.WorkingDayLaws.{counted_none, counted_pass, counted_next, counted_all}
+use Rattle.working_days.proofs.WorkingDayLaws.{counted_pass, counted_next, counted_all}
 use Rattle.working_days.proofs.working_days.count_of_month.Goals as goal
 use Rattle.working_days.proofs.working_days.count_of_month.Goals.{then-is_working, else-is_working}
-
-pub overflow_add-day-end : goal.overflow_add-day-end
-overflow_add-day-end c = omega (arith, c.length-day-end.ensures, month_most c.args.month.year c.args.month.month)
-
-pub loop-day-init : goal.loop-day-init
-loop-day-init c = counted_none _ _
 
 pub loop-day-preserved : goal.loop-day-preserved
 loop-day-preserved c =

@@ -3,17 +3,11 @@ use mathlib.Core.Bool.{Bool, true, false}
 use mathlib.Core.Path.{◌≡◌, refl, sym}
 use native.Mathlib.Omega.{arith}
 use Rattle.working_days.specs.WorkingDays.{working}
-use Rattle.working_days.proofs.WorkingDayLaws.{Sought, sought_first, sought_day, sought_left, sought_pass, sought_next}
+use Rattle.working_days.proofs.WorkingDayLaws.{Sought, sought_first, sought_pass, sought_next}
 use Rattle.working_days.proofs.working_days.nth_of_month.Goals as goal
 
 pub loop-month-init : goal.loop-month-init
 loop-month-init c = (omega arith, sought_first _ _ _ c.requires.some c.requires.few)
-
-pub overflow_add-day : goal.overflow_add-day
-overflow_add-day c = omega (arith, sought_day _ _ _ _ _ c.loop-month.invariant.1)
-
-pub loop-month-smaller : goal.loop-month-smaller
-loop-month-smaller c = omega (arith, sought_left _ _ _ _ _ _ c.loop-month.invariant.1)
 
 -- an iteration, by what it did with `left` on a working day and on another
 step : (y m e r d k k' : ℕ) (b : Bool) → Sought y m e r d k → b ≡ working y m d → (b ≡ true → (k ≡ 1 → ⊥) × (k' ≡ k - 1)) → (b ≡ false → k' ≡ k) → Sought y m e r (d + 1) k'
