@@ -3,11 +3,8 @@
 use mathlib.Core.Path.{◌≡◌, refl, sym, ap, ap₂, ◌∙◌}
 use mathlib.Core.Bool.{true, false, true≢false}
 use mathlib.Core.Logic.{⊎_elim}
-use mathlib.Core.List.{List}
-use Prim.Native.Nat.{ℕ, ◌+◌, ◌≤◌, ◌<◌}
-use native.Mathlib.Decide.{dec_lt}
+use Prim.Native.Nat.{ℕ, ◌+◌, ◌≤◌}
 use native.Mathlib.Omega.{arith}
-use lib.ListN.{get_or, replicate, get_or-replicate, length-replicate, length, get_or-eq_default}
 use borrow.Author.Tests.{lt-ltb, eqb-false}
 use Rattle.calendar.specs.ThermalYears.{is_thermal_year, in_thermal_year}
 use Rattle.parts.specs.declared.points.Point.{Point}
@@ -28,6 +25,7 @@ use Rattle.register.proofs.ReportLaws.{report_facts, report_free, report_none}
 use Rattle.spans.specs.Spans.{annual_first, annual_last}
 use Rattle.cession_decision.specs.declared.deciding.Cession.{Cession}
 use Rattle.cession_decision.specs.CessionQuestions.{charge_of}
+use Rattle.reckoning.proofs.Agreement.{open_below, at_each, blank_at}
 use Rattle.expected.specs.Reckoning.{Reckoning, granted_on, free_by, charges, ceded_by, lines_used, begin, ceded_charge}
 use Rattle.expected.specs.Demand3.{Balances}
 
@@ -46,28 +44,7 @@ pub record Agree (s : State) (k : Reckoning) : Type 0 where
   pub sums : (p d : ℕ) → k.is_open p ≡ true → in_thermal_year k.year d ≡ true → granted_on k p d + free_on s p d ≡ k.total p
   pub none : (p d : ℕ) → k.is_open p ≡ false → granted_on k p d ≡ 0
 
--- ---- points and accounts past the last
--- an open point is one of the 32
-pub open_below : (ps : List Point) (p : ℕ) → length ps ≡ point_count → is_open (point_at ps p) ≡ true → p < point_count
-open_below ps p size e = go (dec_lt p point_count)
-  where
-    go : Dec (p < point_count) → p < point_count
-    go (yes h) = h
-    go (no h) =
-        absurd (true≢false (sym e ∙ ap is_open (get_or-eq_default ps closed_point (omega (arith, size, h)))))
-
--- what holds of each of n elements and of the default holds at every index
-pub at_each : {A : Type 0} (P : A → Type 0) (l : List A) (n : ℕ) (d : A) → length l ≡ n → P d → ((i : ℕ) → i < n → P (get_or l i d)) → (i : ℕ) → P (get_or l i d)
-at_each {A} P l n d size base each i = go (dec_lt i n)
-  where
-    go : Dec (i < n) → P (get_or l i d)
-    go (yes h) = each i h
-    go (no h) = let out : length l ≤ i = omega (arith, size, h) in rw (get_or-eq_default l d out) base
-
 -- ---- at the start
-blank_at : {A : Type 0} (n : ℕ) (x : A) (i : ℕ) → get_or (replicate n x) i x ≡ x
-blank_at {A} n x i = at_each (λ (a : A). a ≡ x) (replicate n x) n x (length-replicate n x) refl (λ j h. get_or-replicate n j x x h) i
-
 pub agree_fresh : (y : ℕ) → is_thermal_year y ≡ true → Agree (fresh_state y) (begin y)
 unfolding blank_register
 agree_fresh y h =

@@ -54,7 +54,7 @@ use Rattle.expected.specs.Reckoning.{Reckoning, free_by, charges, ceded_by, rece
 use Rattle.expected.specs.Expected.{open_questions_by, place_questions_by, turn_questions_by, covers_by, lines_left_by, is_offered_by, charge_asked_by, free_throughout_by, request_questions_by, amount_granted_by, batch_questions_by, line_questions_by, line_number_by, free_of_year_by, sum_asked_by, share_of_by, number_of_line_by, holds_on_by, is_held_by, cession_questions_by, expected, report_questions_by, report_number_by, report_amount_by}
 use Rattle.expected.proofs.Agreement.{Agree, charge_by, charge_ceded, free_by_lem}
 use Rattle.expected.proofs.AlikeLaws.{Alike, no_more, next, sure, same_left, same_told, same_batch, same_leb, not_less}
-use Rattle.expected.proofs.Backing.{holding, Backed, charge_backed}
+use Rattle.reckoning.proofs.Backing.{holding, Backed, charge_backed}
 use Rattle.expected.proofs.Invariant.{HeldBy}
 
 module _ (s : State) (k : Reckoning) (w : Agree s k) where

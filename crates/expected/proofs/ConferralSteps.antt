@@ -32,7 +32,7 @@ use Rattle.expected.specs.Calls.{request_capacity, confer_batch, answer}
 use Rattle.expected.specs.Reckoning.{Reckoning, grant_to, grant_if, grant_lines, entered}
 use Rattle.expected.proofs.Invariant.{Kept}
 use Rattle.expected.proofs.GrantSteps.{agree_grant}
-use Rattle.expected.proofs.BackingSteps.{backed_grant}
+use Rattle.reckoning.proofs.BackingSteps.{backed_grant}
 use Rattle.expected.proofs.HeldSteps.{held_grant}
 
 -- a grant that is booked

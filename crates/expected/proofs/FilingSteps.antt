@@ -6,20 +6,18 @@ use mathlib.Core.List.{List}
 use Prim.Native.Nat.{ℕ, ◌+◌, ◌-◌, ◌≤◌, ◌<◌}
 use native.Mathlib.Decide.{ℕ_discrete, dec_lt}
 use native.Mathlib.Omega.{arith}
-use lib.ListN.{get_or, set, length, get_or-eq_default}
-use lib.Seq.{get_or-set_same, get_or-set_other}
-use borrow.Author.Tests.{eq-eqb, ne_eqb, lt-ltb}
-use Rattle.calendar.specs.ThermalYears.{is_thermal_year, in_thermal_year, thermal_first}
+use lib.ListN.{set, length, get_or-eq_default}
+use borrow.Author.Tests.{lt-ltb}
+use Rattle.calendar.specs.ThermalYears.{in_thermal_year, thermal_first}
 use Rattle.parts.specs.declared.points.Point.{Point}
 use Rattle.parts.specs.declared.accounts.Account.{Account}
-use Rattle.parts.specs.Limits.{user_count, row_length}
+use Rattle.parts.specs.Limits.{user_count}
 use Rattle.parts.specs.Registers.{State, point_at, account_at, closed_point, absent_user, point}
 use Rattle.amounts.specs.Amounts.{year_days, free_on}
 use Rattle.parts.specs.Points.{is_open}
 use Rattle.parts.specs.Accounts.{is_on_file}
 use Rattle.amounts.proofs.RangeLaws.{replaced_length}
 use Rattle.amounts.proofs.AmountLaws.{capacity_in, row_in, row_out, table_at}
-use Rattle.amounts.proofs.CalendarLaws.{year_facts, day_within}
 use Rattle.register.specs.Sound.{Sound}
 use Rattle.order.proofs.OrderKept.{field_kept}
 use Rattle.opening.specs.OpenPoint.{open_number, opened}
@@ -30,30 +28,9 @@ use Rattle.placing.proofs.PlaceLaws.{facts as place-facts}
 use Rattle.turning.proofs.TurnLaws.{TurnFacts, facts as turn_facts}
 use Rattle.turning.proofs.Kept.{settled_at_lem}
 use Rattle.expected.specs.Reckoning.{Reckoning, put, granted_on, ceded_by, with_open, with_guarantee, with_new_year}
-use Rattle.expected.proofs.Agreement.{Agree, open_below}
-
--- a function with another value at one place
-pub put_same : {A : Type 0} (f : ℕ → A) (i : ℕ) (v : A) (j : ℕ) → j ≡ i → put f i v j ≡ v
-put_same f i v j e = rw (eq-eqb j i e)
-
-pub put_other : {A : Type 0} (f : ℕ → A) (i : ℕ) (v : A) (j : ℕ) → (j ≡ i → ⊥) → put f i v j ≡ f j
-put_other f i v j ne = rw (ne_eqb j i ne)
-
--- one element replaced in a list, and its value in what was reckoned of each element
-set_put : {X A : Type 0} (F : X → A) (l : List X) (d : X) (p : ℕ) (x : X) (f : ℕ → A) → p < length l → ((j : ℕ) → F (get_or l j d) ≡ f j)
-    → (i : ℕ) → F (get_or (set l p x) i d) ≡ put f p (F x) i
-set_put {X} {A} F l d p x f b same i = go (ℕ_discrete i p)
-  where
-    go : Dec (i ≡ p) → F (get_or (set l p x) i d) ≡ put f p (F x) i
-    go (yes e) = ap (λ (j : ℕ). F (get_or (set l p x) j d)) e ∙ ap F (get_or-set_same l p x d b) ∙ sym (put_same f p (F x) i e)
-    go (no ne) = ap F (get_or-set_other l p i x d ne) ∙ same i ∙ sym (put_other f p (F x) i ne)
-
--- the k-th day from 1 October is one of the year and lies in the row of its point
-day_place : (y d : ℕ) → is_thermal_year y ≡ true → in_thermal_year y d ≡ true → (d - thermal_first y < year_days y) × (d - thermal_first y < row_length)
-day_place y d t i =
-    let w = day_within y d i in
-    let f = year_facts y t in
-    (omega (arith, w.from, w.to), omega (arith, w.from, w.to, f.most))
+use Rattle.reckoning.proofs.Agreement.{open_below}
+use Rattle.reckoning.proofs.FilingSteps.{put_same, put_other, set_put, day_place}
+use Rattle.expected.proofs.Agreement.{Agree}
 
 -- ---- open point
 module _ (s : State) (k : Reckoning) (p kind total rate : ℕ) (a : Agree s k) (z : open_number s p kind total rate ≡ 0) where

@@ -20,14 +20,8 @@ use Rattle.conferral.specs.declared.bookings.Grant.{Grant}
 use Rattle.conferral.specs.Bookings.{days_of, charge_of}
 use Rattle.conferral.proofs.BookedLaws.{BookedIn}
 use Rattle.expected.specs.Reckoning.{Entry, Reckoning, grant_covers, granted_on, charges, ceded_by, grant_to}
-use Rattle.expected.proofs.Agreement.{Agree, open_below}
-
--- what a choice between an amount and nothing is
-pub chosen : (b : Bool) (n : ℕ) → b ≡ true → cond b n 0 ≡ n
-chosen b n h = rw h
-
-pub left_out : (b : Bool) (n : ℕ) → b ≡ false → cond b n 0 ≡ 0
-left_out b n h = rw h
+use Rattle.reckoning.proofs.Agreement.{open_below}
+use Rattle.expected.proofs.Agreement.{Agree}
 
 -- a grant of the reckoning that does not cover a day at a point
 pub not_covering : (g : Entry) (p d : ℕ) → grant_covers g p d ≡ false → p ≡ g.point → g.first ≤ d → d ≤ g.last → ⊥

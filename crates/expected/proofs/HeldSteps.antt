@@ -23,9 +23,9 @@ use Rattle.cessions.proofs.AnswerLaws.{facts}
 use Rattle.expected.specs.Calls.{cede_capacity, answer}
 use Rattle.expected.specs.Reckoning.{Reckoning, with_open, with_guarantee, with_new_year, grant_to, entered}
 use Rattle.expected.proofs.Agreement.{Agree}
-use Rattle.expected.proofs.Backing.{holding, Backed, nothing_held}
+use Rattle.reckoning.proofs.Backing.{holding, Backed, nothing_held}
 use Rattle.expected.proofs.Invariant.{HeldBy}
-use Rattle.expected.proofs.BackingSteps.{holding_now, enough, giver_now, receiver_now, other_now}
+use Rattle.reckoning.proofs.BackingSteps.{holding_now, enough, giver_now, receiver_now, other_now}
 
 -- ---- after a turn of the year nothing is held
 pub held_turn : (s : State) (k : Reckoning) (y : ℕ) → HeldBy (turned s y) (with_new_year k y)

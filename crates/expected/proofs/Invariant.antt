@@ -10,7 +10,7 @@ use Rattle.parts.specs.Registers.{State, blank_register}
 use Rattle.register.specs.Fresh.{fresh_state}
 use Rattle.expected.specs.Reckoning.{Reckoning, received_on, ceded_on, begin}
 use Rattle.expected.proofs.Agreement.{Agree, agree_fresh}
-use Rattle.expected.proofs.Backing.{holding, Backed, nothing_held, backed_fresh}
+use Rattle.reckoning.proofs.Backing.{holding, Backed, nothing_held, backed_fresh}
 
 -- by the reckoning a user holds what he was granted and took over, less what he ceded
 abbrev pub HeldBy : State → Reckoning → Type 0

@@ -12,7 +12,7 @@ use Rattle.expected.proofs.Invariant.{Kept}
 use Rattle.expected.proofs.CallLaws.{altered, unaltered, call_sound}
 use Rattle.expected.proofs.FilingSteps.{agree_open, agree_place, agree_turn}
 use Rattle.expected.proofs.CessionSteps.{agree_cession}
-use Rattle.expected.proofs.BackingSteps.{backed_open, backed_place, backed_turn, backed_cession}
+use Rattle.reckoning.proofs.BackingSteps.{opened_backed, placed_backed, turned_backed, backed_cession}
 use Rattle.expected.proofs.HeldSteps.{held_open, held_place, held_turn, held_cession}
 use Rattle.expected.proofs.ConferralSteps.{request_kept, batch_kept}
 
@@ -30,14 +30,14 @@ accepted_keeps s k (open_point p kind total rate) w z =
     by_what_it_does s k c w z
     (record {
       agrees = agree_open s k p kind total rate w.agrees z (does_sound s k c w z);
-      backed = backed_open s p kind total rate w.agrees.sound z w.backed;
+      backed = opened_backed s p kind total rate w.agrees.sound z w.backed;
       held = held_open s k p kind total rate w.held;
     })
 accepted_keeps s k (place_guarantee u g) w z =
     by_what_it_does s k (place_guarantee u g) w z
     (record {
       agrees = agree_place s k u g w.agrees z (does_sound s k (place_guarantee u g) w z);
-      backed = backed_place s u g w.backed;
+      backed = placed_backed s u g w.backed;
       held = held_place s k u g w.held;
     })
 accepted_keeps s k (request_capacity q) w z = request_kept s k q w z
@@ -52,7 +52,7 @@ accepted_keeps s k (turn_year y) w z =
     by_what_it_does s k (turn_year y) w z
     (record {
       agrees = agree_turn s k y w.agrees z (does_sound s k (turn_year y) w z);
-      backed = backed_turn s y w.agrees.sound;
+      backed = turned_backed s y w.agrees.sound;
       held = held_turn s k y;
     })
 

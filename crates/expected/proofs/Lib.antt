@@ -1,7 +1,6 @@
 pub mod SmallestLaws
 pub mod AlikeLaws
 pub mod Agreement
-pub mod Backing
 pub mod Invariant
 pub mod Answered
 pub mod FairLaws
@@ -9,7 +8,6 @@ pub mod CallLaws
 pub mod FilingSteps
 pub mod GrantSteps
 pub mod CessionSteps
-pub mod BackingSteps
 pub mod HeldSteps
 pub mod ConferralSteps
 pub mod Kept

@@ -57,7 +57,7 @@ at_each {A} P l n d size base each i = go (dec_lt i n)
     go (no h) = let out : length l ≤ i = omega (arith, size, h) in rw (get_or-eq_default l d out) base
 
 -- ---- at the start
-blank_at : {A : Type 0} (n : ℕ) (x : A) (i : ℕ) → get_or (replicate n x) i x ≡ x
+pub blank_at : {A : Type 0} (n : ℕ) (x : A) (i : ℕ) → get_or (replicate n x) i x ≡ x
 blank_at {A} n x i = at_each (λ (a : A). a ≡ x) (replicate n x) n x (length-replicate n x) refl (λ j h. get_or-replicate n j x x h) i
 
 pub agree_fresh : (y : ℕ) → is_thermal_year y ≡ true → Agree (fresh_state y) (begin y)

@@ -18,7 +18,7 @@ use Rattle.reckoning.proofs.BackingSteps.{backed_open, backed_place, backed_turn
 -- a call answered 0
 accepted_backed : (s : State) (c : Call) → Sound s → Backed s → (answer s c).number ≡ 0 → Backed (after s c)
 accepted_backed s (open_point p kind total rate) sound k z = backed_open s p kind total rate sound z k
-accepted_backed s (place_guarantee u g) sound k z = backed_place s u g z k
+accepted_backed s (place_guarantee u g) sound k z = backed_place s u g k z
 accepted_backed s (request_capacity q) sound k z = backed_request s q sound z k
 accepted_backed s (confer_batch b m n) sound k z = backed_batch s b m n sound z k
 accepted_backed s (cede_capacity c) sound k z = backed_cession s c sound z k

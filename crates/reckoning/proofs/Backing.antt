@@ -59,18 +59,19 @@ pub in_days : (y first last : ℕ) → FitFacts y first last → last < thermal_
 in_days y first last f = omega (arith, f.begins, f.ordered, f.ends)
 
 -- ---- an empty ledger
-pub backed_empty : (s : State) → s.register.lines ≡ 0 → ((u : ℕ) → (account_at s.register.accounts u).commitment ≡ 0) → Backed s
+pub nothing_held : (s : State) → s.register.lines ≡ 0 → (u p d : ℕ) → holds s u p d ≡ pos 0
 unfolding held_on
+nothing_held s empty u p d =
+    ap (λ (n : ℕ). signed_sum n (part_at s.register.year s.ledger u p d)) empty ∙ sum_none (part_at s.register.year s.ledger u p d)
+
+pub backed_empty : (s : State) → s.register.lines ≡ 0 → ((u : ℕ) → (account_at s.register.accounts u).commitment ≡ 0) → Backed s
 backed_empty s empty zeros =
+    let none = nothing_held s empty in
     record {
       held = λ u p d. as_number (holds s u p d) 0 (none u p d);
       owed = λ u. zeros u
           ∙ sym (held_none (thermal_first s.register.year) (year_days s.register.year) (rate_of s.register.points) (holding s u) (λ p d. ap mag (none u p d)));
     }
-  where
-    none : (u p d : ℕ) → holds s u p d ≡ pos 0
-    none u p d =
-        ap (λ (n : ℕ). signed_sum n (part_at s.register.year s.ledger u p d)) empty ∙ sum_none (part_at s.register.year s.ledger u p d)
 
 pub backed_fresh : (y : ℕ) → is_thermal_year y ≡ true → Backed (fresh_state y)
 unfolding blank_register

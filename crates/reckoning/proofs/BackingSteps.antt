@@ -106,7 +106,7 @@ module _ (s : State) (p kind total rate : ℕ) (sound : Sound s) (z : open_numbe
           inr (λ d. ap mag (closed_none s sound u i d (ap (λ (j : ℕ). is_open (point_at ps j)) e ∙ (open_facts s p kind total rate z).closed)))
       go (no ne) = inl (ap (λ (x : Point). x.rate) (get_or-set_other ps p i q closed_point ne))
 
-  opened_backed : Backed (opened s p kind total rate)
+  pub opened_backed : Backed (opened s p kind total rate)
   unfolding opened
   opened_backed =
       record {
@@ -119,8 +119,8 @@ module _ (s : State) (p kind total rate : ℕ) (sound : Sound s) (z : open_numbe
   backed_open = subst Backed (sym (leaves_new (open_number s p kind total rate) (opened s p kind total rate) s z)) opened_backed
 
 -- ---- place guarantee: "the commitment stays"
-module _ (s : State) (u g : ℕ) (z : place_number s u g ≡ 0) (k : Backed s) where
-  placed_backed : Backed (placed s u g)
+module _ (s : State) (u g : ℕ) (k : Backed s) where
+  pub placed_backed : Backed (placed s u g)
   unfolding placed
   placed_backed =
       record {
@@ -128,12 +128,12 @@ module _ (s : State) (u g : ℕ) (z : place_number s u g ≡ 0) (k : Backed s) w
         owed = λ i. field_kept (λ a. a.commitment) s.register.accounts u (pledged (account_at s.register.accounts u) g) refl i ∙ k.owed i;
       }
 
-  pub backed_place : Backed (place_after s u g)
+  pub backed_place : place_number s u g ≡ 0 → Backed (place_after s u g)
   unfolding place_after
-  backed_place = subst Backed (sym (leaves_new (place_number s u g) (placed s u g) s z)) placed_backed
+  backed_place z = subst Backed (sym (leaves_new (place_number s u g) (placed s u g) s z)) placed_backed
 
 -- ---- turn the year: "ledger empty, commitments 0"
-module _ (s : State) (y : ℕ) (sound : Sound s) (z : turn_number s y ≡ 0) where
+module _ (s : State) (y : ℕ) (sound : Sound s) where
   abbrev us : List Account
   us = s.register.accounts
 
@@ -144,13 +144,13 @@ module _ (s : State) (y : ℕ) (sound : Sound s) (z : turn_number s y ≡ 0) whe
       (replaced_length us 0 user_count (settled_at us) ∙ sound.sized.accounts) refl
       (λ i h. ap (λ (a : Account). a.commitment) (settled_at_lem us i sound.sized.accounts h))
 
-  turned_backed : Backed (turned s y)
+  pub turned_backed : Backed (turned s y)
   unfolding turned
   turned_backed = backed_empty (turned s y) refl settled_zero
 
-  pub backed_turn : Backed (turn_after s y)
+  pub backed_turn : turn_number s y ≡ 0 → Backed (turn_after s y)
   unfolding turn_after
-  backed_turn = subst Backed (sym (leaves_new (turn_number s y) (turned s y) s z)) turned_backed
+  backed_turn z = subst Backed (sym (leaves_new (turn_number s y) (turned s y) s z)) turned_backed
 
 -- ---- what year and points that stay leave of a charge
 as_before : (s t : State) (u : ℕ) → t.register.year ≡ s.register.year → t.register.points ≡ s.register.points
@@ -196,7 +196,7 @@ module _ (s : State) (g : Grant) (t : State) (b : BookedIn s g t) (w : LimitFact
       ∙ sum_more n (part_at y t.ledger u p d)
       ∙ ap₂ ◌+ℤ◌ (old_lines u p d ∙ k.held u p d) (new_line u p d)
 
-  holding_now : (u p d : ℕ) → holding t u p d ≡ holding s u p d + cond (covered u p d) g.amount 0
+  pub holding_now : (u p d : ℕ) → holding t u p d ≡ holding s u p d + cond (covered u p d) g.amount 0
   holding_now u p d = ap mag (grown u p d)
 
   more : (d : ℕ) → g.first ≤ d → d ≤ g.last → holding t g.user g.point d ≡ holding s g.user g.point d + g.amount
@@ -312,20 +312,20 @@ module _ (s : State) (c : Cession) (sound : Sound s) (z : cession_number s c ≡
 
   -- the giver held the amount, so that he holds at least nothing
   module _ (d : ℕ) (from : begins ≤ d) (to : d ≤ ends) where
-    enough : c.amount ≤ holding s c.giver c.point d
+    pub enough : c.amount ≤ holding s c.giver c.point d
     enough = giver_has s c k known.held d from to
 
-    giver_now : holds after_it c.giver c.point d ≡ pos (holding s c.giver c.point d - c.amount)
+    pub giver_now : holds after_it c.giver c.point d ≡ pos (holding s c.giver c.point d - c.amount)
     giver_now =
         giver_holds s c sound z d from to
         ∙ ap (λ (x : ℤ). x -ℤ pos c.amount) (k.held c.giver c.point d)
         ∙ signed_less (holding s c.giver c.point d) c.amount enough
 
-    receiver_now : holds after_it c.receiver c.point d ≡ pos (holding s c.receiver c.point d + c.amount)
+    pub receiver_now : holds after_it c.receiver c.point d ≡ pos (holding s c.receiver c.point d + c.amount)
     receiver_now =
         receiver_holds s c sound z d from to ∙ ap (λ (x : ℤ). x +ℤ pos c.amount) (k.held c.receiver c.point d)
 
-  other_now : (u p d : ℕ) → (u ≡ c.giver → p ≡ c.point → begins ≤ d → d ≤ ends → ⊥) → (u ≡ c.receiver → p ≡ c.point → begins ≤ d → d ≤ ends → ⊥)
+  pub other_now : (u p d : ℕ) → (u ≡ c.giver → p ≡ c.point → begins ≤ d → d ≤ ends → ⊥) → (u ≡ c.receiver → p ≡ c.point → begins ≤ d → d ≤ ends → ⊥)
       → holds after_it u p d ≡ pos (holding s u p d)
   other_now u p d g r = held_other s c sound z u p d g r ∙ k.held u p d
 

@@ -42,7 +42,7 @@ pub put_other : {A : Type 0} (f : ℕ → A) (i : ℕ) (v : A) (j : ℕ) → (j 
 put_other f i v j ne = rw (ne_eqb j i ne)
 
 -- one element replaced in a list, and its value in what was reckoned of each element
-set_put : {X A : Type 0} (F : X → A) (l : List X) (d : X) (p : ℕ) (x : X) (f : ℕ → A) → p < length l → ((j : ℕ) → F (get_or l j d) ≡ f j)
+pub set_put : {X A : Type 0} (F : X → A) (l : List X) (d : X) (p : ℕ) (x : X) (f : ℕ → A) → p < length l → ((j : ℕ) → F (get_or l j d) ≡ f j)
     → (i : ℕ) → F (get_or (set l p x) i d) ≡ put f p (F x) i
 set_put {X} {A} F l d p x f b same i = go (ℕ_discrete i p)
   where
@@ -51,7 +51,7 @@ set_put {X} {A} F l d p x f b same i = go (ℕ_discrete i p)
     go (no ne) = ap F (get_or-set_other l p i x d ne) ∙ same i ∙ sym (put_other f p (F x) i ne)
 
 -- the k-th day from 1 October is one of the year and lies in the row of its point
-day_place : (y d : ℕ) → is_thermal_year y ≡ true → in_thermal_year y d ≡ true → (d - thermal_first y < year_days y) × (d - thermal_first y < row_length)
+pub day_place : (y d : ℕ) → is_thermal_year y ≡ true → in_thermal_year y d ≡ true → (d - thermal_first y < year_days y) × (d - thermal_first y < row_length)
 day_place y d t i =
     let w = day_within y d i in
     let f = year_facts y t in
