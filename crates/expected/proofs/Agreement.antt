@@ -21,11 +21,11 @@ use Rattle.register.specs.Reports.{report_questions, report_number}
 use Rattle.register.specs.Sound.{Sound}
 use Rattle.register.proofs.FreshKept.{fresh_sound}
 use Rattle.order.proofs.OrderFacts.{ordered, Absent, OnFile, account_is, commitment_le}
-use Rattle.register.proofs.ReportLaws.{report_facts, report_free, report_none}
+use Rattle.register.proofs.ReportLaws.{report_facts, report_none}
 use Rattle.spans.specs.Spans.{annual_first, annual_last}
 use Rattle.cession_decision.specs.declared.deciding.Cession.{Cession}
 use Rattle.cession_decision.specs.CessionQuestions.{charge_of}
-use Rattle.reckoning.proofs.Agreement.{open_below, at_each, blank_at}
+use Rattle.reckoning.proofs.Agreement.{open_below, at_each, blank_at, reported}
 use Rattle.expected.specs.Reckoning.{Reckoning, granted_on, free_by, charges, ceded_by, lines_used, begin, ceded_charge}
 use Rattle.expected.specs.Demand3.{Balances}
 
@@ -97,8 +97,8 @@ module _ (s : State) (k : Reckoning) (a : Agree s k) where
   balances =
       record {
         order = a.sound.order;
-        sums = λ p d o i. (reports p d o i, ap (λ (n : ℕ). granted_on k p d + n) (sym (report_free s p d (reports p d o i) (free_on s p d) refl)) ∙ a.sums p d o i);
-        closed = λ p d o. (closed_report p d o, sym (report_none s p d (closed_report p d o)));
+        sums = λ p d o i. (reports p d o i, ap (λ (n : ℕ). granted_on k p d + n) (reported s p d (reports p d o i)) ∙ a.sums p d o i);
+        closed = λ p d o. (closed_report p d o, report_none s p d (closed_report p d o));
         commitments = a.balance;
         covered = λ u. omega (arith, covered u, a.guarantee u);
         unfiled = λ u h. sym (a.guarantee u) ∙ absent_none u (a.filed u ∙ h);

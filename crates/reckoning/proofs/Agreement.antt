@@ -15,13 +15,13 @@ use Rattle.parts.specs.Limits.{point_count, user_count}
 use Rattle.parts.specs.Registers.{State, point_at, account_at, closed_point, absent_user, blank_register}
 use Rattle.amounts.specs.Amounts.{free_on}
 use Rattle.parts.specs.Points.{is_open}
-use Rattle.parts.proofs.AnswerLaws.{passed}
+use Rattle.parts.proofs.AnswerLaws.{passed, leaves_new}
 use Rattle.register.specs.Fresh.{fresh_state}
-use Rattle.register.specs.Reports.{report_questions, report_number}
+use Rattle.register.specs.Reports.{report_questions, report_number, report_amount}
 use Rattle.register.specs.Sound.{Sound}
 use Rattle.register.proofs.FreshKept.{fresh_sound}
 use Rattle.order.proofs.OrderFacts.{ordered, commitment_le}
-use Rattle.register.proofs.ReportLaws.{report_facts, report_free, report_none}
+use Rattle.register.proofs.ReportLaws.{report_facts, report_none}
 use Rattle.reckoning.specs.Reckoning.{Reckoning, granted_on, charges, ceded_by, lines_used, begin}
 use Rattle.reckoning.specs.Demand3.{Balances}
 
@@ -77,6 +77,11 @@ agree_fresh y h =
     }
 
 -- ---- what it says of a list
+-- an accepted report gives what is free
+pub reported : (s : State) (p d : ℕ) → report_number s p d ≡ 0 → report_amount s p d ≡ free_on s p d
+unfolding report_amount
+reported s p d z = leaves_new (report_number s p d) (free_on s p d) 0 z
+
 module _ (s : State) (k : Reckoning) (a : Agree s k) where
   open_point_lem : (p : ℕ) → k.is_open p ≡ true → is_open (point_at s.register.points p) ≡ true
   open_point_lem p o = a.opened p ∙ o
@@ -102,8 +107,8 @@ module _ (s : State) (k : Reckoning) (a : Agree s k) where
   balances =
       record {
         order = a.sound.order;
-        sums = λ p d o i. (reports p d o i, ap (λ (n : ℕ). granted_on k p d + n) (sym (report_free s p d (reports p d o i) (free_on s p d) refl)) ∙ a.sums p d o i);
-        closed = λ p d o. (closed_report p d o, sym (report_none s p d (closed_report p d o)));
+        sums = λ p d o i. (reports p d o i, ap (λ (n : ℕ). granted_on k p d + n) (reported s p d (reports p d o i)) ∙ a.sums p d o i);
+        closed = λ p d o. (closed_report p d o, report_none s p d (closed_report p d o));
         commitments = a.balance;
         covered = λ u. omega (arith, covered u, a.guarantee u);
       }
