@@ -13,7 +13,8 @@ pub enum Timeliness {
     Late,
 }
 
-// The gas-day with a number, where the calendar has it.
+// The gas-day with a number, where the calendar has it. No `TryFrom`: that would let pass each number of 16 bits, and the calendar ends
+// before the last of them.
 #[tactic(auto, unfolding(crate::specs::Answers::day_in))]
 fn in_calendar(number: u32) -> Option<u16>
     ensures { result ≡ day_in number }

@@ -8,7 +8,7 @@
 mod deadlines;
 mod thermal_years;
 
-pub use days::{Date, Month, date_of, day_of, next_date};
+pub use days::{Date, Month, date_of, day_of, names_month, next_date};
 pub use deadlines::{Timeliness, in_time_own_month, in_time_preceding_month, next_first};
 pub use thermal_years::{Span, in_thermal_year, is_thermal_year, thermal_month, thermal_year};
 pub use working_days::{DayType, day_type, easter, nth_working_day, working_days_of};

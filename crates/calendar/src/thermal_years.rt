@@ -3,7 +3,7 @@ ghost use Rattle.std.specs.Prelude.{◌≡◌};
 ghost use Rattle.calendar.specs.ThermalYears.{is_thermal_year, in_thermal_year, is_thermal_month};
 ghost use Rattle.calendar.specs.Answers.{calendar_answer, span_of_month, year_answer, month_answer};
 
-use days::{Date, Month};
+use days::{Date, Month, names_month};
 
 // A span of gas-days, by its first and its last. Where the first is after the last, no day lies in it.
 #[derive(Clone, Copy, PartialEq, Eq)]
@@ -33,7 +33,7 @@ pub fn is_thermal_year(year: u16) -> bool
 fn is_thermal_month(year: u16, month: u8) -> bool
     ensures { result ≡ is_thermal_month year month }
 {
-    is_thermal_year(year) & ((1 <= month) & (month <= 12))
+    is_thermal_year(year) & names_month(month)
 }
 
 // A month of a thermal year as one of the calendar: month 1 is October. It stays two numbers, not a `Month`, since calls name its number

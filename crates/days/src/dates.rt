@@ -1,6 +1,6 @@
 // Days, months, years and dates.
 ghost use Rattle.std.specs.Prelude.{◌≡◌, ◌<◌, ◌^◌};
-ghost use Rattle.days.specs.Days.{leap, month_length, year_start, days_before, month_start, date_of, is_year, is_month, is_date, moves_on};
+ghost use Rattle.days.specs.Days.{between, leap, month_length, year_start, days_before, month_start, date_of, is_year, is_month, is_date, moves_on};
 ghost use Rattle.days.specs.Answers.{date_answer, day_answer, next_date_answer};
 
 use std::fmt;
@@ -57,6 +57,13 @@ pub fn is_year(year: u16) -> bool
     (2000 <= year) & (year <= 2099)
 }
 
+// Whether a number names a month, of a calendar year or of a thermal year.
+pub fn names_month(month: u8) -> bool
+    ensures { result ≡ between 1 12 month }
+{
+    (1 <= month) & (month <= 12)
+}
+
 fn year_start(year: u16) -> u32
     ensures value { result ≡ year_start year }
     ensures upper_bound { result < 2 ^ 25 }
@@ -72,7 +79,7 @@ impl Month {
     pub fn is_in_calendar(self) -> bool
         ensures { result ≡ is_month self.year self.month }
     {
-        is_year(self.year) & ((1 <= self.month) & (self.month <= 12))
+        is_year(self.year) & names_month(self.month)
     }
 
     #[tactic(auto, unfolding(crate::specs::Days::month_length))]

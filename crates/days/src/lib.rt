@@ -7,4 +7,4 @@
 
 mod dates;
 
-pub use dates::{Date, LAST_DAY, Month, date_at, date_of, day_of, is_year, next_date};
+pub use dates::{Date, LAST_DAY, Month, date_at, date_of, day_of, is_year, names_month, next_date};

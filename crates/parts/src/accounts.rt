@@ -21,7 +21,8 @@ impl Account {
         self.on_file == 1
     }
 
-    // Not on file with nothing set, or on file within the limits. All tests are made, with no branch.
+    // Not on file with nothing set, or on file within the limits. All tests are made, with no branch, which `==` with an absent one
+    // would have.
     pub fn is_in_order(self) -> bool
         ensures { result ≡ account_ok self }
     {

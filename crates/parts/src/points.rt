@@ -29,7 +29,7 @@ impl Point {
         self.kind == 1
     }
 
-    // Closed with nothing set, or open within the limits. All tests are made, with no branch.
+    // Closed with nothing set, or open within the limits. All tests are made, with no branch, which `==` with a closed point would have.
     pub fn is_in_order(self) -> bool
         ensures { result ≡ point_ok self }
     {

@@ -42,7 +42,7 @@ pub fn is_month_within_limits(product: Product) -> bool
     ensures { result ≡ month_ok product }
 {
     match product {
-        Product::Month(month) => (1 <= month) & (month <= 12),
+        Product::Month(month) => calendar::names_month(month),
         Product::Annual | Product::Day(_) => true,
     }
 }

@@ -81,7 +81,8 @@ fn how_many<F: Fn(u16, Date) -> bool>(month: Month, is_such: F) -> usize
         .count()
 }
 
-// Whether an arrival is in time for the month after a month of the calendar, which is one of a thermal year.
+// Whether an arrival is in time for the month after a month of the calendar, which is one of a thermal year. The calendar goes the
+// other way, from a month of a thermal year to one of its own.
 fn is_in_time_for_next(arrival: u16, month: Month) -> bool
     requires { (1 ≤ month.year) × (1 ≤ month.month) × (month.month ≤ 12) }
 {
