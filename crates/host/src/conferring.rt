@@ -6,6 +6,7 @@ ghost use Rattle.batches.specs.ConferBatch.{batch_number, batch_after, shares_af
 
 use applied::Applied;
 use register::Register;
+use shares::Batch;
 
 // Confers a batch at a point for the whole year. Shares and numbers of its lines go to the two last lists.
 pub fn ylgrandi_batch(
@@ -29,7 +30,10 @@ pub fn ylgrandi_batch(
     ensures numbers { numbers.new ≡ numbers_after (state r free.old ledger.old)
         (batch point users.now asked.now) shares.old numbers.old }
 {
-    applied::applied_filed(batches::confer_batch(
-        r, free, ledger, point, users, asked, shares, numbers,
-    ))
+    let b = Batch {
+        point,
+        users,
+        asked,
+    };
+    Applied::from(batches::confer_batch(r, free, ledger, b, shares, numbers))
 }

@@ -4,6 +4,7 @@ ghost use Rattle.parts.specs.Registers.{state};
 ghost use Rattle.placing.specs.PlaceGuarantee.{place_number, place_after};
 
 use applied::Applied;
+use placing::Guarantee;
 use register::Register;
 
 // Puts a user on file, or replaces his guarantee.
@@ -19,5 +20,6 @@ pub fn ylgrandi_place_guarantee(
     ensures state { state result.register free.now ledger.now ≡ place_after
         (state r free.now ledger.now) user guarantee }
 {
-    applied::applied_filed(placing::place_guarantee(r, free, ledger, user, guarantee))
+    let g = Guarantee { user, guarantee };
+    Applied::from(placing::place_guarantee(r, free, ledger, g))
 }

@@ -4,6 +4,7 @@ ghost use Rattle.parts.specs.Registers.{state};
 ghost use Rattle.opening.specs.OpenPoint.{open_number, open_after};
 
 use applied::Applied;
+use opening::Opening;
 use register::Register;
 
 // Opens a point: every gas-day of the year is free to the total.
@@ -21,5 +22,11 @@ pub fn ylgrandi_open_point(
     ensures state { state result.register free.new ledger.now ≡ open_after
         (state r free.old ledger.now) point kind total rate }
 {
-    applied::applied_filed(opening::open_point(r, free, ledger, point, kind, total, rate))
+    let o = Opening {
+        point,
+        kind,
+        total,
+        rate,
+    };
+    Applied::from(opening::open_point(r, free, ledger, o))
 }

@@ -4,8 +4,8 @@ ghost use Rattle.parts.specs.Registers.{state};
 ghost use Rattle.order.specs.Order.{in_order};
 ghost use Rattle.holdings.specs.Holdings.{held_answer, short_day};
 
-use holdings::{Held, Holding};
-use register::Register;
+use holdings::Holding;
+use register::{Register, View};
 
 // No gas-day has this number.
 const NO_DAY: u32 = 65_536;
@@ -14,7 +14,11 @@ const NO_DAY: u32 = 65_536;
 pub fn ylgrandi_in_order(r: Register, free: &[u32], ledger: &[u32]) -> bool
     ensures { result ≡ in_order (state r free.now ledger.now) }
 {
-    register::in_order(r, free, ledger)
+    register::in_order(View {
+        register: &r,
+        free,
+        ledger,
+    })
 }
 
 // Question 10: the first gas-day of the span on which the user holds less than the amount; 65,536 where there is none. In a register
@@ -22,9 +26,8 @@ pub fn ylgrandi_in_order(r: Register, free: &[u32], ledger: &[u32]) -> bool
 pub fn ylgrandi_first_short_day(year: u16, lines: u16, ledger: &[u32], h: Holding) -> u32
     ensures { result ≡ short_day (held_answer year lines ledger.now h) }
 {
-    let held = holdings::first_short_day(year, lines, ledger, h);
-    match held {
-        Held::Throughout => NO_DAY,
-        Held::ShortOn(day) => day as u32,
+    match holdings::first_short_day(year, lines, ledger, h) {
+        None => NO_DAY,
+        Some(day) => u32::from(day),
     }
 }

@@ -3,7 +3,7 @@ ghost use Rattle.std.specs.Prelude.{◌≡◌};
 ghost use Rattle.parts.specs.Registers.{state};
 ghost use Rattle.register.specs.Reports.{report_number, report_amount};
 
-use register::Register;
+use register::{Register, View};
 
 // What a report gives: the number, and the free amount, 0 for a refusal.
 #[repr(C)]
@@ -18,9 +18,14 @@ pub fn ylgrandi_report(r: Register, free: &[u32], ledger: &[u32], point: u8, day
     ensures number { result.number ≡ report_number (state r free.now ledger.now) point day }
     ensures amount { result.amount ≡ report_amount (state r free.now ledger.now) point day }
 {
-    let answer = register::report_free(r, free, ledger, point, day);
+    let v = View {
+        register: &r,
+        free,
+        ledger,
+    };
+    let answer = register::report_free(v, point, day);
     Reported {
-        number: register::report_number(answer),
-        amount: register::report_amount(answer),
+        number: register::answer_number(&answer),
+        amount: register::answer_amount(&answer),
     }
 }

@@ -9,6 +9,7 @@ use register::Register;
 use requests::{Product, Request};
 
 // What a kind names, with the month or the gas-day that it has. Another kind is the month 0, which is out of limits.
+#[tactic(auto, unfolding(crate::specs::Requests::product_of))]
 fn product_of(kind: u8, month: u8, day: u16) -> Product
     ensures { result ≡ product_of kind month day }
 {
@@ -49,5 +50,5 @@ pub fn ylgrandi_request(
         arrival,
         amount,
     };
-    applied::applied_conferred(requests::request_capacity(r, free, ledger, q))
+    Applied::from(requests::request_capacity(r, free, ledger, q))
 }

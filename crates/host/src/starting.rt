@@ -12,5 +12,5 @@ pub fn ylgrandi_fresh(year: u16, free: &mut [u32], ledger: &mut [u32]) -> Applie
     ensures state { state result.register free.new ledger.new ≡ fresh_after year free.old
         ledger.old }
 {
-    applied::applied_filed(register::fresh_register(year, free, ledger))
+    Applied::from(register::fresh_register(year, free, ledger))
 }

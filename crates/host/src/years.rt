@@ -13,5 +13,5 @@ pub fn ylgrandi_turn_year(r: Register, free: &mut [u32], ledger: &mut [u32], yea
     ensures state { state result.register free.new ledger.new ≡ turn_after
         (state r free.old ledger.old) year }
 {
-    applied::applied_filed(turning::turn_year(r, free, ledger, year))
+    Applied::from(turning::turn_year(r, free, ledger, year))
 }
