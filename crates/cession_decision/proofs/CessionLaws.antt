@@ -1,12 +1,13 @@
 -- Laws of the cession's questions: what the code's steps rest on.
 -- Assumes nothing.
-use mathlib.Core.Path.{◌≡◌, refl, sym, ap, ◌∙◌}
+use mathlib.Core.Path.{◌≡◌, sym, ◌∙◌}
 use mathlib.Core.Bool.{true, false, not, ◌&&◌}
 use mathlib.Core.List.{List}
 use Prim.Native.Nat.{ℕ, ◌<◌}
+use native.Mathlib.Omega.{arith}
 use lib.Dec.{ltb, eqb}
 use borrow.Author.Tests.{ltb-true, eqb-false, not-true}
-use Rattle.std.specs.Prelude.{Option, Some, None, Result, Ok, Err}
+use Rattle.std.specs.Prelude.{Some, None, Result, Ok, Err}
 use Rattle.calendar.specs.declared.thermal_years.Span.{Span}
 use Rattle.days.specs.Days.{between}
 use Rattle.days.proofs.Ranges.{and_left, and_right, Within, within}
@@ -16,11 +17,9 @@ use Rattle.parts.specs.declared.registers.Register.{Register}
 use Rattle.parts.specs.Limits.{point_count, user_count, most_amount}
 use Rattle.parts.specs.Answers.{Question, number_of}
 use Rattle.spans.specs.Spans.{arrives, annual_answer}
-use Rattle.conferral.specs.declared.bookings.Grant.{Grant}
 use Rattle.conferral.specs.Bookings.{charge_within}
-use Rattle.spans.proofs.SpanLaws.{SpanFacts, span_facts, arrival_year}
+use Rattle.spans.proofs.SpanLaws.{span_facts, arrival_year}
 use Rattle.conferral.proofs.RoomLaws.{charge_within_lem}
-use Rattle.holdings.specs.declared.holdings.Holding.{Holding}
 use Rattle.holdings.specs.Holdings.{LinesIn, held_answer, is_throughout}
 use Rattle.holdings.proofs.HeldLaws.{held_answer_lem}
 use Rattle.cession_decision.specs.declared.deciding.Cession.{Cession}
@@ -75,33 +74,21 @@ module _ (r : Register) (c : Cession) where
   unfolding span_answer
   no_span e = unchosen (is_in_year r c) (span_of r c) e
 
-  pub span_in : (days : Span) → Spanned r c days → SpanFacts r.year c.arrival days.first days.last
-  span_in days w = rw w.is (span_facts r.year c.arrival (span_first c) (span_last r) w.fits)
-
   -- ---- question 10
-  -- what the giver is to hold, from the days of the span
-  pub given_is : (days : Span) → Spanned r c days → (h : Holding)
-      → h ≡ record { user = c.giver; point = c.point; first = days.first; last = days.last; amount = c.amount }
-      → h ≡ given_of r c
-  given_is days w h e = e ∙ rw w.is
-
-  pub held_asks : (days : Span) → Spanned r c days → (ls : List ℕ) → LinesIn r.year r.lines ls → (v : Option ℕ)
-      → v ≡ held_answer r.year r.lines ls (record { user = c.giver; point = c.point; first = days.first; last = days.last; amount = c.amount })
-      → is_throughout v ≡ is_held r ls c
-  held_asks days w ls l v e =
-      ap is_throughout (e ∙ ap (held_answer r.year r.lines ls) (given_is days w _ refl))
-      ∙ held_answer_lem r.year r.lines ls l (given_of r c)
+  -- whether the giver holds the amount, from the days of the span
+  pub held_asks : (days : Span) → Spanned r c days → (ls : List ℕ) → LinesIn r.year r.lines ls
+      → is_throughout (held_answer r.year r.lines ls (record { user = c.giver; point = c.point; first = days.first; last = days.last; amount = c.amount })) ≡ is_held r ls c
+  held_asks days w ls l = rw w.is (held_answer_lem r.year r.lines ls l (given_of r c))
 
   -- ---- the charge
-  pub charge_is : (days : Span) (kind : ℕ) → FieldFacts c → Spanned r c days → Within 1 3 kind → (g : Grant)
-      → g ≡ record { user = c.receiver; point = c.point; kind = kind; first = days.first; last = days.last; amount = c.amount }
-      → charge_within r g ≡ charge_of r c
-  charge_is days kind f w k g e =
-      let s = span_in days w in
-      ap (charge_within r) e
-      ∙ charge_within_lem r (record { user = c.receiver; point = c.point; kind = kind; first = days.first; last = days.last; amount = c.amount })
-      (record { year = s.year; fit = s.fit; user = f.receiver; point = f.point; kind = k; amount = f.amount })
-      ∙ rw w.is
+  pub charge_is : (days : Span) → cession_fields c ≡ true → Spanned r c days
+      → charge_within r (record { user = c.receiver; point = c.point; kind = 1; first = days.first; last = days.last; amount = c.amount }) ≡ charge_of r c
+  charge_is days h w =
+      let f = fields c h in
+      let s = span_facts r.year c.arrival (span_first c) (span_last r) w.fits in
+      rw w.is
+      (charge_within_lem r (record { user = c.receiver; point = c.point; kind = 1; first = span_first c; last = span_last r; amount = c.amount })
+      (record { year = s.year; fit = s.fit; user = f.receiver; point = f.point; kind = record { from = omega arith; to = omega arith }; amount = f.amount }))
 
 -- ---- decisions
 -- what a decision says of some questions it says of others that give the same number

@@ -3,7 +3,6 @@
 use mathlib.Core.Path.{◌≡◌, refl, sym, ◌∙◌}
 use mathlib.Core.Bool.{true, not}
 use Prim.Native.Nat.{ℕ}
-use native.Mathlib.Omega.{arith}
 use Rattle.std.specs.Prelude.{Option, Some, None, is_some, Result}
 use Rattle.days.proofs.Ranges.{and_left}
 use Rattle.calendar.specs.declared.thermal_years.Span.{Span}
@@ -11,25 +10,15 @@ use Rattle.calendar.specs.Answers.{own_answer}
 use Rattle.parts.specs.declared.answers.Refusal.{Refusal}
 use Rattle.parts.specs.declared.registers.Register.{Register}
 use Rattle.parts.specs.Registers.{State}
-use Rattle.order.specs.Order.{in_order}
 use Rattle.spans.specs.Spans.{arrives, span_fits, is_timely}
 use Rattle.spans.proofs.SpanLaws.{timely_own}
-use Rattle.conferral.specs.Bookings.{charge_within}
 use Rattle.holdings.specs.Holdings.{held_answer, is_throughout}
-use Rattle.holdings.proofs.HeldLaws.{lines_in}
 use Rattle.cession_decision.specs.declared.deciding.Cession.{Cession}
 use Rattle.cession_decision.specs.declared.deciding.Handover.{Handover}
-use Rattle.cession_decision.specs.CessionQuestions.{cession_fields, span_first, span_last, is_in_year, is_in_time, deadline, is_held, charge_of, charge_questions, held_questions, span_questions}
+use Rattle.cession_decision.specs.CessionQuestions.{span_first, span_last, is_in_year, is_in_time, deadline, is_held, charge_of, charge_questions, held_questions, span_questions}
 use Rattle.cession_decision.specs.Decisions.{handover_of, Decides}
 use Rattle.cession_decision.specs.Steps.{span_answer, Spanned, Lined}
-use Rattle.cession_decision.proofs.CessionLaws.{fields, no_arrival, arrived_span, spanned, no_span, held_asks, charge_is, decides_too}
-
--- ---- question 1
-pub ordered_lines : (s : State) → in_order s ≡ true → Lined s
-ordered_lines s h = lines_in s h
-
--- ---- question 8
-pub ruleset arrival_tests = (no_arrival, arrived_span)
+use Rattle.cession_decision.proofs.CessionLaws.{spanned, held_asks, decides_too}
 
 -- ---- questions 8 and 9
 module _ (r : Register) (c : Cession) where
@@ -60,17 +49,12 @@ module _ (s : State) (c : Cession) (days : Span) (w : Spanned s.register c days)
   found = held_answer s.register.year s.register.lines s.ledger (record { user = c.giver; point = c.point; first = days.first; last = days.last; amount = c.amount })
 
   pub held_is : not (is_some found) ≡ is_held s.register s.ledger c
-  held_is = short_if found ∙ held_asks s.register c days w s.ledger l found refl
+  held_is = short_if found ∙ held_asks s.register c days w s.ledger l
 
 pub held_after : (s : State) (c : Cession) (d : Result Handover Refusal) → is_held s.register s.ledger c ≡ true
     → Decides (charge_questions s.register c) s.register c d → Decides (held_questions s c) s.register c d
 held_after s c d h w = decides_too (charge_questions s.register c) (held_questions s c) s.register c d (rw h) w
 
--- the charge, and what is handed over
-pub charged_is : (r : Register) (c : Cession) (days : Span) → cession_fields c ≡ true → Spanned r c days
-    → charge_within r (record { user = c.receiver; point = c.point; kind = 1; first = days.first; last = days.last; amount = c.amount }) ≡ charge_of r c
-charged_is r c days h w =
-    charge_is r c days 1 (fields c h) w (record { from = omega arith; to = omega arith }) _ refl
-
+-- what is handed over
 pub handed : (r : Register) (c : Cession) (days : Span) → Spanned r c days → record { first = days.first; charge = charge_of r c } ≡ handover_of r c
 handed r c days w = rw w.is

@@ -58,7 +58,7 @@ fn are_on_file(r: &Register, c: Cession) -> bool
 }
 
 // Question 8: from the first of the month after arrival to the year's end, where that is answered yes.
-#[tactic(auto, using(crate::proofs::SpanTests::arrival_tests))]
+#[tactic(auto, using(crate::proofs::CessionLaws::no_arrival, crate::proofs::CessionLaws::arrived_span))]
 fn span_of(year: u16, arrival: u16) -> Option<Span>
     ensures { result ≡ span_answer year arrival }
 {
@@ -69,7 +69,7 @@ fn span_of(year: u16, arrival: u16) -> Option<Span>
 }
 
 // The charge of a cession on the days of the span: that of an annual grant to the receiver.
-#[tactic(auto, using(crate::proofs::SpanTests::charged_is))]
+#[tactic(auto, using(crate::proofs::CessionLaws::charge_is))]
 fn cession_charge(r: &Register, c: Cession, days: Span) -> u64
     requires fields { cession_fields c ≡ true }
     requires span { Spanned r.now c days }
@@ -156,7 +156,7 @@ fn decide_span(v: View, c: Cession) -> Result<Handover, Refusal>
 }
 
 // Questions 1, 2, 3 and 5, and those that follow: the whole decision, what is handed over or why nothing is.
-#[tactic(auto, using(crate::proofs::SpanTests::ordered_lines))]
+#[tactic(auto, using(holdings::proofs::HeldLaws::lines_in))]
 pub fn decide(v: View, c: Cession) -> Result<Handover, Refusal>
     ensures { Decides (cession_questions (state_in v.entry) c) (state_in v.entry).register c result }
 {
