@@ -1,30 +1,26 @@
 use mathlib.Core.Path.{ap, ◌∙◌}
 use Prim.Native.Nat.{◌<◌}
-use borrow.Author.Tests.{le-leb}
 use mir.Syntax.{w32}
 use mir.Facts.{to_z_pos}
 use Rattle.parts.specs.Registers.{state}
 use Rattle.order.proofs.OrderFacts.{guarantee_le}
-use Rattle.conferral.specs.Bookings.{covers}
-use Rattle.cession_decision.specs.declared.deciding.Handover.{Handover}
 use Rattle.cession_decision.specs.CessionQuestions.{receiver_of}
 use Rattle.cessions.specs.CedeCapacity.{annual_line}
-use Rattle.cessions.proofs.AnswerLaws.{answered_passes, facts, decided_zero, ceded_as, decided, refused}
+use Rattle.cessions.proofs.AnswerLaws.{facts, decided_zero, ceded_as, decided, refused}
 use Rattle.cessions.proofs.CededLaws.{minus_held}
 use native.Mathlib.Omega.{arith}
 use Rattle.cessions.proofs.ceding.cede_capacity.Goals as goal
 
-pub moved_register-requires : goal.moved_register-requires
-moved_register-requires c =
+pub moved_register-requires-clause-guarantee : goal.moved_register-requires-clause-guarantee
+moved_register-requires-clause-guarantee c =
     let s = state c.args.r c.args.free.now c.args.ledger.now in
-    let zero = decided_zero s c.args.c c.in-Ok.h c.in-Ok.ensures in
-    let w = facts s c.args.c zero in
-    record {
-      fields = (answered_passes s c.args.c zero).1.0;
-      guarantee = guarantee_le (receiver_of c.args.r c.args.c) (w.order.accounts c.args.c.receiver w.fields.receiver);
-      covered = ap (covers (receiver_of c.args.r c.args.c)) (ap (λ (h : Handover). h.charge) c.in-Ok.ensures.1) ∙ le-leb _ _ w.covered;
-      lines = w.lines;
-    }
+    let w = facts s c.args.c (decided_zero s c.args.c c.in-Ok.h c.in-Ok.ensures) in
+    guarantee_le (receiver_of c.args.r c.args.c) (w.order.accounts c.args.c.receiver w.fields.receiver)
+
+pub moved_register-requires-clause-lines : goal.moved_register-requires-clause-lines
+moved_register-requires-clause-lines c =
+    let s = state c.args.r c.args.free.now c.args.ledger.now in
+    (facts s c.args.c (decided_zero s c.args.c c.in-Ok.h c.in-Ok.ensures)).lines
 
 pub returns-in-Ok : goal.returns-in-Ok
 returns-in-Ok c =
