@@ -6,24 +6,11 @@ ghost use Rattle.history.specs.Changes.{call_of, shares_left, numbers_left};
 
 use applied::Applied;
 use cessions::Cession;
-use register::Register;
+use opening::Opening;
+use parts::Register;
+use placing::Guarantee;
 use requests::Request;
-
-// A point to be opened.
-#[derive(Clone, Copy)]
-pub struct Opening {
-    pub point: u8,
-    pub kind: u8,
-    pub total: u64,
-    pub rate: u32,
-}
-
-// A guarantee to be placed.
-#[derive(Clone, Copy)]
-pub struct Guarantee {
-    pub user: u8,
-    pub guarantee: u64,
-}
+use shares::Batch;
 
 // A changing call. A batch has its point here, and its lists are lent beside it.
 #[derive(Clone, Copy)]
@@ -36,7 +23,9 @@ pub enum Change {
     TurnYear(u16),
 }
 
-// Makes a call. The lists of users and asked amounts are read, and those of shares and numbers written, by a batch alone.
+// Makes a call. The lists of users and asked amounts are read, and those of shares and numbers written, by a batch alone; they stay
+// four, since a caller without a batch lends empty ones, and the point of a batch is in the change.
+#[tactic(auto, using(crate::proofs::ChangeLaws::batch_lists))]
 pub fn apply(
     r: Register,
     free: &mut [u32],
@@ -64,31 +53,18 @@ pub fn apply(
         (length shares.old) (length numbers.old))) numbers.old }
 {
     match change {
-        Change::OpenPoint(o) => applied::applied_filed(opening::open_point(
-            r,
-            free,
-            &ledger[..],
-            o.point,
-            o.kind,
-            o.total,
-            o.rate,
-        )),
-        Change::PlaceGuarantee(g) => applied::applied_filed(placing::place_guarantee(
-            r,
-            &free[..],
-            &ledger[..],
-            g.user,
-            g.guarantee,
-        )),
-        Change::RequestCapacity(q) => {
-            applied::applied_conferred(requests::request_capacity(r, free, ledger, q))
+        Change::OpenPoint(o) => Applied::from(opening::open_point(r, free, ledger, o)),
+        Change::PlaceGuarantee(g) => Applied::from(placing::place_guarantee(r, free, ledger, g)),
+        Change::RequestCapacity(q) => Applied::from(requests::request_capacity(r, free, ledger, q)),
+        Change::ConferBatch(point) => {
+            let b = Batch {
+                point,
+                users,
+                asked,
+            };
+            Applied::from(batches::confer_batch(r, free, ledger, b, shares, numbers))
         }
-        Change::ConferBatch(point) => applied::applied_filed(batches::confer_batch(
-            r, free, ledger, point, users, asked, shares, numbers,
-        )),
-        Change::CedeCapacity(c) => applied::applied_ceded(cessions::cede_capacity(
-            r, free, ledger, c,
-        )),
-        Change::TurnYear(year) => applied::applied_filed(turning::turn_year(r, free, ledger, year)),
+        Change::CedeCapacity(c) => Applied::from(cessions::cede_capacity(r, free, ledger, c)),
+        Change::TurnYear(year) => Applied::from(turning::turn_year(r, free, ledger, year)),
     }
 }

@@ -7,4 +7,6 @@
 mod changes;
 
 pub use applied::Applied;
-pub use changes::{Change, Guarantee, Opening, apply};
+pub use changes::{Change, apply};
+pub use opening::Opening;
+pub use placing::Guarantee;
