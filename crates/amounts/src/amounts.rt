@@ -1,4 +1,5 @@
-// The lent table of free amounts: 366 for each point in turn, first the one for 1 October.
+// The lent table of free amounts: 366 for each point in turn, first the one for 1 October. It is one list, with places by multiplication,
+// since a host in C lends it as a pointer and a length.
 ghost use Rattle.std.specs.Prelude.{◌≡◌};
 ghost use Rattle.amounts.specs.Amounts.{days_of_year, entry_at, entry_in, capacity};
 
@@ -10,16 +11,23 @@ pub fn days_of_year(year: u16) -> usize
     ensures { result ≡ days_of_year year }
 {
     match calendar::thermal_year(year) {
-        Some(span) => (span.last + 1 - span.first) as usize,
+        Some(span) => span.days(),
         None => 0,
     }
+}
+
+// Where the row of a point begins, with the entry of 1 October.
+pub fn row_of(point: u8) -> usize
+    ensures { result ≡ entry_at point 0 }
+{
+    ROW * (point as usize)
 }
 
 // The entry of the k-th day from 1 October, for a point.
 fn entry_at(point: u8, k: u16) -> usize
     ensures { result ≡ entry_at point k }
 {
-    ROW * (point as usize) + (k as usize)
+    row_of(point) + (k as usize)
 }
 
 // The entry of a gas-day of a thermal year, for a point; for a day outside the year the place after the table's end. No `Option`: what

@@ -7,4 +7,4 @@
 
 mod amounts;
 
-pub use amounts::{capacity_on, days_of_year, entry_in};
+pub use amounts::{capacity_on, days_of_year, entry_in, row_of};

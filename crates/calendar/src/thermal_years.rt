@@ -13,6 +13,7 @@ pub struct Span {
 }
 
 impl Span {
+    ghost use Rattle.std.specs.Prelude.{◌+◌, ◌-◌};
     ghost use Rattle.days.specs.Days.{between};
 
     // Whether a day lies in the span.
@@ -20,6 +21,13 @@ impl Span {
         ensures { result ≡ between self.first self.last day }
     {
         (self.first <= day) & (day <= self.last)
+    }
+
+    // How many days it has.
+    pub fn days(self) -> usize
+        ensures { result ≡ self.last + 1 - self.first }
+    {
+        (self.last as usize + 1).saturating_sub(self.first as usize)
     }
 }
 

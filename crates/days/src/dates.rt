@@ -57,7 +57,8 @@ pub fn is_year(year: u16) -> bool
     (2000 <= year) & (year <= 2099)
 }
 
-// Whether a number names a month, of a calendar year or of a thermal year.
+// Whether a number names a month, of a calendar year or of a thermal year. What is asked of a number has a name for each: a test of any
+// two limits would have them repeated by every caller.
 pub fn names_month(month: u8) -> bool
     ensures { result ≡ between 1 12 month }
 {
@@ -101,8 +102,7 @@ impl Month {
     {
         let mut sum: u32 = 0;
         for month in 1..self.month {
-            let year = self.year;
-            sum += Month { year, month }.length() as u32;
+            sum += Month { month, ..self }.length() as u32;
         }
         sum
     }
@@ -182,6 +182,13 @@ impl Date {
     {
         self.month().is_in_calendar() & ((1 <= self.day) & (self.day <= self.month().length()))
     }
+
+    // Whether it exists in the calendar and is not its last.
+    fn moves_on(self) -> bool
+        ensures { result ≡ moves_on self }
+    {
+        self.exists() & (self != LAST_DATE)
+    }
 }
 
 // The date of any day number, also of one past the calendar's end.
@@ -232,19 +239,12 @@ pub fn day_of(date: Date) -> Option<u16>
     None
 }
 
-// Whether a date exists in the calendar and is not its last.
-fn moves_on(date: Date) -> bool
-    ensures { result ≡ moves_on date }
-{
-    date.exists() & (date != LAST_DATE)
-}
-
 // The date one gas-day later.
 #[tactic(auto, using(crate::proofs::AnswerLaws::year_moved_on), unfolding(crate::specs::Answers::next_date_answer, crate::specs::Days::day_after))]
 pub fn next_date(date: Date) -> Option<Date>
     ensures { result ≡ next_date_answer date }
 {
-    if !moves_on(date) {
+    if !date.moves_on() {
         return None;
     }
     if date.day < date.month().length() {

@@ -50,15 +50,14 @@ fn open_answer(v: View, o: Opening) -> Result<(), Refusal>
 
 // The point written, and every gas-day of the year free to its total.
 #[tactic(auto, using(amounts::proofs::AmountLaws::days_of_lem))]
-fn with_free_point(r: Register, free: &mut [u32], point: u8, p: Point) -> Register
+fn with_free_point(mut r: Register, free: &mut [u32], point: u8, p: Point) -> Register
     requires { (point < point_count) × (is_thermal_year r.year ≡ true) }
     ensures register { result ≡ with_point r point p }
     ensures free { free.new ≡ freed_row free.old point (year_days r.year) p }
 {
     register::free_row(free, point, register::days_of_year(r.year), p);
-    let mut s = r;
-    s.points[point as usize] = p;
-    s
+    r.points[point as usize] = p;
+    r
 }
 
 // Opens a point: every gas-day of the year is free to the total.

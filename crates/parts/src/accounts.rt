@@ -5,9 +5,10 @@ ghost use Rattle.parts.specs.Accounts.{is_on_file, account_ok};
 
 use crate::limits::MOST_GUARANTEE;
 
-// A user is on file where `on_file` is 1: a number, since a host in C passes the register by value. Guarantee and commitment are in millionths of a euro.
+// A user is on file where `on_file` is 1: a number, since a host in C passes the register by value. Guarantee and commitment are in
+// millionths of a euro.
 #[repr(C)]
-#[derive(Clone, Copy)]
+#[derive(Clone, Copy, Default)]
 pub struct Account {
     pub on_file: u8,
     pub guarantee: u64,

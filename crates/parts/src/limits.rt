@@ -34,7 +34,8 @@ pub const MOST_GUARANTEE: u64 = 1_000_000_000_000_000;
 // The largest number that 64 bits hold.
 pub const MOST_WORD: u64 = u64::MAX;
 
-// Whether a number names a point, and whether one names a user.
+// Whether a number names a point, and whether one names a user: two, each with the name of what it asks, since one for both would be
+// given its limit by every caller.
 pub fn names_point(point: u8) -> bool
     ensures { result ≡ ltb point point_count }
 {

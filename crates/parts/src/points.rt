@@ -8,7 +8,7 @@ use crate::limits::{MOST_RATE, is_amount};
 // finds another one. The total is in Sm3 a day; the rate is for each Sm3/day and gas-day, in millionths
 // of a euro.
 #[repr(C)]
-#[derive(Clone, Copy)]
+#[derive(Clone, Copy, Default)]
 pub struct Point {
     pub kind: u8,
     pub total: u32,

@@ -21,22 +21,10 @@ pub struct Register {
 pub fn blank(year: u16) -> Register
     ensures { result ≡ blank_register year }
 {
-    let closed = Point {
-        kind: 0,
-        total: 0,
-        rate: 0,
-    };
-    let absent = Account {
-        on_file: 0,
-        guarantee: 0,
-        commitment: 0,
-    };
-    let points = [closed; POINTS];
-    let accounts = [absent; USERS];
     Register {
         year,
-        points,
-        accounts,
+        points: [Point::default(); POINTS],
+        accounts: [Account::default(); USERS],
         lines: 0,
     }
 }

@@ -41,15 +41,14 @@ fn place_answer(v: View, g: Guarantee) -> Result<(), Refusal>
 }
 
 // The register with the user on file and that guarantee. His commitment stays.
-fn with_user_on_file(r: Register, g: Guarantee) -> Register
+fn with_user_on_file(mut r: Register, g: Guarantee) -> Register
     requires { g.user < user_count }
     ensures { result ≡ with_account r g.user (pledged (account_at r.accounts g.user) g.guarantee) }
 {
-    let mut s = r;
-    let a = &mut s.accounts[g.user as usize];
+    let a = &mut r.accounts[g.user as usize];
     a.on_file = 1;
     a.guarantee = g.guarantee;
-    s
+    r
 }
 
 // Puts a user on file, or replaces his guarantee.

@@ -19,7 +19,7 @@ fn fresh_answer(year: u16, free: &[u32], ledger: &[u32]) -> Result<(), Refusal>
 }
 
 // A register of a year with no point open, no user on file, an empty ledger and nothing free. A refused one is of year 0, which
-// no call takes, and leaves both lists.
+// no call takes, and leaves both lists: a host in C is given a register by value also where it is refused.
 #[tactic(auto, using(crate::proofs::FreshLaws::fresh_exits))]
 pub fn fresh_register(year: u16, free: &mut [u32], ledger: &mut [u32]) -> Answered<()>
     ensures number { number_of_answer result.answer ≡ fresh_number year free.old ledger.old }

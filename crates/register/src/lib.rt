@@ -8,7 +8,7 @@
 mod fresh;
 mod reports;
 
-pub use amounts::{days_of_year, entry_in};
+pub use amounts::{days_of_year, entry_in, row_of};
 pub use fresh::fresh_register;
 pub use ledger::{Line, line_at, write_line};
 pub use order::in_order;

@@ -3,16 +3,19 @@ ghost use Rattle.std.specs.Prelude.{◌≡◌, ◌-◌, min, length, replicate};
 ghost use Rattle.amounts.specs.Ranges.{replaced, least_of};
 ghost use Rattle.amounts.specs.Amounts.{taken, freed_row, freed_table};
 
+use amounts::row_of;
 use parts::{POINTS, Point, ROW};
 
-// How many of the n places from `at` on lie in a list of that length.
+// How many of the n places from `at` on lie in a list of that length. A list, a place and a number travel together, and no slice: a run
+// may lie past the list's end, where by the rule of the project 0 is read and nothing is written.
 fn places_within(len: usize, at: usize, n: usize) -> usize
     ensures { result ≡ min n (len - at) }
 {
     n.min(len.saturating_sub(at))
 }
 
-// The smallest of `most` and of the n free amounts from place `at` on; an amount past the end is 0.
+// The smallest of `most` and of the n free amounts from place `at` on; an amount past the end is 0, by that
+// rule, and so there is no `Option`.
 #[tactic(auto, using(amounts::proofs::RangeLaws::least_past), unfolding(amounts::specs::Ranges::least_of))]
 pub fn least_free(free: &[u32], at: usize, n: usize, most: u32) -> u32
     ensures { result ≡ least_of free.now at n most }
@@ -60,7 +63,7 @@ fn fill(list: &mut [u32], at: usize, n: usize, v: u32)
 pub fn free_row(free: &mut [u32], i: u8, days: usize, p: Point)
     ensures { free.new ≡ freed_row free.old i days p }
 {
-    let at = ROW * (i as usize);
+    let at = row_of(i);
     let n = days.min(ROW);
     fill(free, at, n, p.total);
     fill(free, at + n, ROW - n, 0);
@@ -68,8 +71,8 @@ pub fn free_row(free: &mut [u32], i: u8, days: usize, p: Point)
 
 // The same of all points.
 #[tactic(auto, using(crate::proofs::TableLaws::table_turns))]
-pub fn free_table(free: &mut [u32], days: usize, points: [Point; POINTS])
-    ensures { free.new ≡ freed_table free.old days points }
+pub fn free_table(free: &mut [u32], days: usize, points: &[Point; POINTS])
+    ensures { free.new ≡ freed_table free.old days points.now }
 {
     for i in 0..POINTS {
         free_row(free, i as u8, days, points[i]);

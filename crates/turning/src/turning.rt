@@ -31,14 +31,13 @@ fn settled_accounts(accounts: &[Account; register::USERS]) -> [Account; register
 }
 
 // The register of the new year: commitments are 0 and no line is used.
-fn turned_register(r: Register, year: u16) -> Register
+fn turned_register(mut r: Register, year: u16) -> Register
     ensures { result ≡ turned_register r year }
 {
-    let mut s = r;
-    s.year = year;
-    s.accounts = settled_accounts(&r.accounts);
-    s.lines = 0;
-    s
+    r.year = year;
+    r.accounts = settled_accounts(&r.accounts);
+    r.lines = 0;
+    r
 }
 
 // Turns the register to a later year: totals are free again and the ledger is empty.
@@ -56,7 +55,7 @@ pub fn turn_year(r: Register, free: &mut [u32], ledger: &mut [u32], year: u16) -
     if let Err(why) = turn_answer(v, year) {
         return Answered::refused(r, why);
     }
-    register::free_table(free, register::days_of_year(year), r.points);
+    register::free_table(free, register::days_of_year(year), &r.points);
     register::clear(ledger);
     Answered {
         register: turned_register(r, year),
