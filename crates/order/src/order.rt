@@ -10,7 +10,7 @@ ghost use Rattle.parts.specs.Registers.{state_in};
 ghost use Rattle.order.specs.Order.{amount_ok, names_ok, lengths_ok, points_ok, accounts_ok, table_ok, lines_ok, in_order};
 ghost use Rattle.order.specs.Steps.{at_most, Marked, field_tests, named_tests};
 
-use amounts::capacity_on;
+use amounts::{capacity_on, row_of};
 use calendar::Span;
 use ledger::{Line, line_at};
 use parts::{
@@ -18,8 +18,11 @@ use parts::{
     USERS, View,
 };
 
-// Each point is tested, also after one that is not in order. With `all` for these and the accounts, which asks after each whether to
-// go on, question 1 was timed at a twentieth more where the ledger is empty.
+// The entry of a row that a year of 365 days has none for.
+const LAST: usize = ROW - 1;
+
+// Each point is tested, also after one that is not in order: with `all`, which asks after each whether to go on, question 1 was timed at
+// a twentieth more where the ledger is empty. The accounts have a loop of their own, since one for both would need a trait for the test.
 #[tactic(auto, using(crate::proofs::LoopLaws::all_tested), unfolding(crate::specs::Order::points_ok))]
 fn points_in_order(points: &[Point; POINTS]) -> bool
     ensures { result ≡ points_ok points.now }
@@ -64,9 +67,9 @@ fn table_in_order(points: &[Point; POINTS], days: usize, free: &[u32]) -> bool
 {
     let mut ok = true;
     for (i, p) in points.iter().enumerate() {
-        let at = ROW * i;
-        let row = all_within(&free[at..at + 365], p.total);
-        let last = free[at + 365] <= capacity_on(days, *p, 365);
+        let at = row_of(i as u8);
+        let row = all_within(&free[at..at + LAST], p.total);
+        let last = free[at + LAST] <= capacity_on(days, *p, LAST);
         ok = ok & (row & last);
     }
     ok
@@ -81,7 +84,7 @@ fn month_first(year: u16, month: u8) -> u16
     calendar::thermal_month(year, month).unwrap().first
 }
 
-// Marks of the months' firsts, by the days from 1 October, found once for all lines.
+// Marks of the months' firsts, by the days from 1 October, found once for all lines. An array of marks, since a set would need the heap.
 fn month_marks(year: u16, span: Span) -> [bool; ROW]
     requires { YearSpan year span.first span.last }
     ensures { Marked year 12 result }
@@ -101,8 +104,8 @@ fn amount_in_order(a: i32) -> bool
     (LEAST_SIGNED <= a) & (a <= -1) | (1 <= a) & (a <= MOST_SIGNED)
 }
 
-// What a line says by itself: its user and its point are there, its kind, its first day in the year, its amount. The first day is a
-// number of the lent ledger, of 32 bits, and so may be no gas-day, which `contains` asks for.
+// What a line says by itself: its user and its point are there, its kind, its first day in the year, its amount. User, point and first
+// day are numbers of the lent ledger, of 32 bits, where `names_user`, `names_point` and `contains` ask for narrower ones.
 fn fields_in_order(l: Line, span: Span) -> bool
     ensures { result ≡ names_ok l && every (field_tests span.first span.last l) }
 {
