@@ -3,7 +3,8 @@ ghost use Rattle.applied.specs.Telling.{TellsNumber, TellsAmount};
 
 use parts::{Answered, Register};
 
-// What a call gives back: the register as it then is, the number, and the amount granted or ceded, else 0.
+// What a call gives back: the register as it then is, the number, and the amount granted or ceded, else 0. Numbers and no `Result`,
+// since C programs are given it.
 #[repr(C)]
 #[derive(Drop)]
 pub struct Applied {
@@ -12,7 +13,7 @@ pub struct Applied {
     pub amount: u32,
 }
 
-// What a call without an amount gives back.
+// What a call without an amount gives back. Two conversions, since an answer of nothing has no amount to be taken for 0.
 impl From<Answered<()>> for Applied {
     ghost from_gives = { TellsNumber };
 

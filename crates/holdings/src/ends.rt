@@ -1,5 +1,5 @@
 // The last day of a ledger line, which its kind implies.
-ghost use Rattle.std.specs.Prelude.{◌≡◌, ◌-◌, ◌≤◌};
+ghost use Rattle.std.specs.Prelude.{◌≡◌, ◌≤◌};
 ghost use Rattle.days.specs.Days.{last_day};
 ghost use Rattle.calendar.specs.Deadlines.{next_first};
 ghost use Rattle.holdings.specs.Steps.{bounds_of, end_of};
@@ -15,24 +15,15 @@ pub(crate) fn bounds_of(year: u16) -> Span
     calendar::thermal_year(year).unwrap_or(Span { first: 1, last: 0 })
 }
 
-// The last day of the month of a day.
-#[tactic(auto, using(crate::proofs::EndLaws::next_there, calendar::proofs::DeadlineLaws::before_next))]
-fn month_end(day: u32) -> u16
-    requires { next_first day ≤ last_day }
-    ensures { result ≡ next_first day - 1 }
-{
-    calendar::next_first(day as u16).unwrap() - 1
-}
-
 // The last day of a line: annual lines end with the year, month lines with the month, day lines on that day.
-#[tactic(auto, using(calendar::proofs::DeadlineLaws::before_next))]
+#[tactic(auto, using(crate::proofs::EndLaws::next_there, calendar::proofs::DeadlineLaws::before_next))]
 pub(crate) fn line_end(l: Line, last: u16) -> u16
     requires { next_first l.first ≤ last_day }
     ensures { result ≡ end_of last l }
 {
     match l.kind {
         1 => last,
-        2 => month_end(l.first),
+        2 => calendar::next_first(l.first as u16).unwrap() - 1,
         _ => l.first as u16,
     }
 }

@@ -21,7 +21,8 @@ pub(crate) struct GatheredLine {
 
 // The lines that count on some days of the span, how many they are, and what all lines add that count on every day of it. A list for
 // each field of a line, so that the compiler takes several lines at once: an array of structs was tried, and on 2,000 lines of all
-// kinds it takes a fifth longer than everyday Rust, where the lists take a fifth less.
+// kinds it takes a fifth longer than everyday Rust, where the lists take a fifth less. Their length is fixed and the count stands beside
+// them, since there is no heap.
 #[derive(Drop)]
 pub(crate) struct Gathered {
     pub firsts: [u16; register::LINES],
@@ -31,7 +32,8 @@ pub(crate) struct Gathered {
     pub base: i64,
 }
 
-// Whether a line is the user's at the point. One that begins outside the year is left out: question 1 lets none pass.
+// Whether a line is the user's at the point. One that begins outside the year is left out: question 1 lets none pass. The line's numbers
+// are those of the lent ledger, of 32 bits, so that neither `==` of a part nor `contains` asks for them.
 fn is_gathered(l: Line, h: Holding, year: Span) -> bool
     ensures { result ≡ is_gathered h year l }
 {
@@ -39,6 +41,7 @@ fn is_gathered(l: Line, h: Holding, year: Span) -> bool
         & ((year.first as u32 <= l.first) & (l.first <= year.last as u32))
 }
 
+// What is kept of a line. No `From`, since the last day of the year comes with it.
 #[tactic(auto, using(calendar::proofs::DeadlineLaws::before_next))]
 fn gathered_line(l: Line, last: u16) -> GatheredLine
     requires { next_first l.first ≤ last_day }

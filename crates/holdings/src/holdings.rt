@@ -60,7 +60,8 @@ fn used_lines(lines: u16) -> usize
 }
 
 // Question 10: the first gas-day of the span on which the user holds less than the amount, by the ledger's first `lines` lines in a
-// thermal year; `None` where he holds it on every day.
+// thermal year; `None` where he holds it on every day. Year and lines stand by themselves, since the C function of this question is given
+// no register.
 #[tactic(auto, using(crate::proofs::HeldLaws::gathered_answer))]
 pub fn first_short_day(year: u16, lines: u16, ledger: &[u32], h: Holding) -> Option<u16>
     ensures { result ≡ held_answer year lines ledger.now h }

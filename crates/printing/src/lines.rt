@@ -18,6 +18,8 @@ fn last_digit(n: u32) -> u8
     48 + (n % 10) as u8
 }
 
+// The buffer and a place go in, and the next place comes back. Each of these functions asks for the room of what it writes itself, so that
+// a struct of buffer and place would have no bound of its own to keep.
 fn put_byte(b: u8, out: &mut [u8], at: usize) -> usize
     requires { at < length out.old }
     ensures place { result ≡ at + 1 }
@@ -64,7 +66,8 @@ fn put_numbers(position: u32, number: u32, amount: u32, out: &mut [u8], at: usiz
 }
 
 // Writes a line from a place on, and answers the place after it. Where fewer than 33 bytes are left it writes nothing and answers the
-// same place.
+// same place, which is the one after no bytes: an `Option` would say no more. The number is given, and no answer, since a record that is
+// no call has a number too.
 #[tactic(auto, using(crate::proofs::WritingLaws::put_or_kept))]
 pub fn put_line(position: u32, number: u8, amount: u32, out: &mut [u8], at: usize) -> usize
     ensures place { result ≡ place_after out.old at (answer_line position number amount) }

@@ -5,7 +5,8 @@ ghost use Rattle.products.specs.Products.{kind_of, month_ok, is_offered, span_an
 use calendar::Span;
 use parts::Point;
 
-// The rest of the year, a month of it (1 is October) or a gas-day.
+// The rest of the year, a month of it (1 is October) or a gas-day. What a product asks is told apart by `match`, the three of them in one
+// place: with a closure for each the same would stand in three.
 #[derive(Clone, Copy)]
 pub enum Product {
     Annual,
