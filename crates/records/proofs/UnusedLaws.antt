@@ -11,8 +11,8 @@ use borrow.Author.Tests.{eqb-true, eqb-false}
 use Rattle.days.proofs.Ranges.{and_left, and_right}
 use Rattle.products.specs.declared.products.Product.{Product}
 use Rattle.products.specs.declared.products.Product.TheVariants.{Annual, Month, Day}
-use Rattle.records.specs.declared.decoding.Decoded.{Decoded}
-use Rattle.records.specs.declared.decoding.Decoded.TheVariants.{NoCall}
+use Rattle.std.specs.Prelude.{Option, Some, None}
+use Rattle.history.specs.declared.changes.Change.{Change}
 use Rattle.records.specs.Records.{record_length, number_at, letter_of, kind_of, month_of, day_of, opening_in, guarantee_in, request_for, request_in, cession_in, turn_in, call_in, decoded, request_uses, letter_uses, is_read}
 use Rattle.records.proofs.CallLaws.{by_P, by_G, by_R, by_C, by_Y, by_none, kind_annual, kind_month, kind_day, kind_none}
 
@@ -65,9 +65,9 @@ module _ (s t : List ℕ) where
   request same =
       let kind : kind_of t ≡ kind_of s = same 1 refl in
       let of : (k : ℕ) → kind_of s ≡ k → Agree (request_uses k) = λ k e. subst (λ (n : ℕ). Agree (request_uses n)) e same in
-      either (kind_of s) 1 (λ e. sym (kind_annual t (kind ∙ e)) ∙ (annual (of 1 e) ∙ kind_annual s e)) λ a.
-      either (kind_of s) 2 (λ e. sym (kind_month t (kind ∙ e)) ∙ (month (of 2 e) ∙ kind_month s e)) λ m.
-      either (kind_of s) 3 (λ e. sym (kind_day t (kind ∙ e)) ∙ (day (of 3 e) ∙ kind_day s e)) λ d.
+      either (kind_of s) 1 (λ e. sym (kind_annual t (kind ∙ e)) ∙ (ap Some (annual (of 1 e)) ∙ kind_annual s e)) λ a.
+      either (kind_of s) 2 (λ e. sym (kind_month t (kind ∙ e)) ∙ (ap Some (month (of 2 e)) ∙ kind_month s e)) λ m.
+      either (kind_of s) 3 (λ e. sym (kind_day t (kind ∙ e)) ∙ (ap Some (day (of 3 e)) ∙ kind_day s e)) λ d.
       sym (kind_none t (λ e. a (sym kind ∙ e)) (λ e. m (sym kind ∙ e)) (λ e. d (sym kind ∙ e))) ∙ kind_none s a m d
 
   opening : Agree (letter_uses 80 (kind_of s)) → opening_in t ≡ opening_in s
@@ -93,18 +93,18 @@ module _ (s t : List ℕ) where
   call : letter_of t ≡ letter_of s → Agree (letter_uses (letter_of s) (kind_of s)) → call_in t ≡ call_in s
   call letter same =
       let of : (l : ℕ) → letter_of s ≡ l → Agree (letter_uses l (kind_of s)) = λ l e. subst (λ (n : ℕ). Agree (letter_uses n (kind_of s))) e same in
-      either (letter_of s) 80 (λ e. sym (by_P t (letter ∙ e)) ∙ (opening (of 80 e) ∙ by_P s e)) λ p.
-      either (letter_of s) 71 (λ e. sym (by_G t (letter ∙ e)) ∙ (guarantee (of 71 e) ∙ by_G s e)) λ g.
+      either (letter_of s) 80 (λ e. sym (by_P t (letter ∙ e)) ∙ (ap Some (opening (of 80 e)) ∙ by_P s e)) λ p.
+      either (letter_of s) 71 (λ e. sym (by_G t (letter ∙ e)) ∙ (ap Some (guarantee (of 71 e)) ∙ by_G s e)) λ g.
       either (letter_of s) 82 (λ e. sym (by_R t (letter ∙ e)) ∙ (asking (of 82 e) ∙ by_R s e)) λ r.
-      either (letter_of s) 67 (λ e. sym (by_C t (letter ∙ e)) ∙ (cession (of 67 e) ∙ by_C s e)) λ c.
-      either (letter_of s) 89 (λ e. sym (by_Y t (letter ∙ e)) ∙ (turn (of 89 e) ∙ by_Y s e)) λ y.
+      either (letter_of s) 67 (λ e. sym (by_C t (letter ∙ e)) ∙ (ap Some (cession (of 67 e)) ∙ by_C s e)) λ c.
+      either (letter_of s) 89 (λ e. sym (by_Y t (letter ∙ e)) ∙ (ap Some (turn (of 89 e)) ∙ by_Y s e)) λ y.
       let other : (l : ℕ) → (letter_of s ≡ l → ⊥) → letter_of t ≡ l → ⊥ = λ l no_such e. no_such (sym letter ∙ e) in
       sym (by_none t (other 80 p) (other 71 g) (other 82 r) (other 67 c) (other 89 y)) ∙ by_none s p g r c y
 
   pub same_call : length t ≡ length s → Agree (is_read s) → decoded t ≡ decoded s
   same_call e same =
       let used : Agree (letter_uses (letter_of s) (kind_of s)) = λ i u. same i (rw u (or-true (eqb i 0))) in
-      rw e (ap (λ (c : Decoded). cond (ltb (length s) record_length) NoCall c) (call (same 0 refl) used))
+      rw e (ap (λ (c : Option Change). cond (ltb (length s) record_length) None c) (call (same 0 refl) used))
 
 -- a byte that is not read may hold anything
 pub not_read : (s : List ℕ) (i v : ℕ) → is_read s i ≡ false → decoded (set s i v) ≡ decoded s

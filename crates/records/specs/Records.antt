@@ -1,12 +1,11 @@
 -- Document 01, "Report and runner": the record of 24 bytes and the call that it holds.
 -- Assumes nothing.
-use Rattle.std.specs.Prelude.{ℕ, zero, suc, ◌+◌, ◌*◌, Bool, false, cond, ◌&&◌, ◌||◌, List, [], ◌∷◌, eqb, ltb, length, get_or}
+use Rattle.std.specs.Prelude.{ℕ, zero, suc, ◌+◌, ◌*◌, Bool, false, cond, ◌&&◌, ◌||◌, List, [], ◌∷◌, eqb, ltb, length, get_or, Option, Some, None}
 use Rattle.days.specs.Days.{between}
 use Rattle.products.specs.declared.products.Product.{Product}
 use Rattle.products.specs.declared.products.Product.TheVariants.{Annual, Month, Day}
+use Rattle.history.specs.declared.changes.Change.{Change}
 use Rattle.history.specs.declared.changes.Change.TheVariants.{OpenPoint, PlaceGuarantee, RequestCapacity, CedeCapacity, TurnYear}
-use Rattle.records.specs.declared.decoding.Decoded.{Decoded}
-use Rattle.records.specs.declared.decoding.Decoded.TheVariants.{IsCall, NoCall}
 
 -- "records of 24 bytes"
 abbrev pub record_length : ℕ
@@ -72,34 +71,34 @@ amount_of s = number_at s 16 8
 
 -- ---- the calls
 -- open. Which kinds a point has is asked by the call itself
-abbrev pub opening_in : List ℕ → Decoded
-opening_in s = IsCall (OpenPoint (record { point = point_of s; kind = kind_of s; total = amount_of s; rate = rate_of s }))
+abbrev pub opening_in : List ℕ → Change
+opening_in s = OpenPoint (record { point = point_of s; kind = kind_of s; total = amount_of s; rate = rate_of s })
 
 -- guarantee
-abbrev pub guarantee_in : List ℕ → Decoded
-guarantee_in s = IsCall (PlaceGuarantee (record { user = user_of s; guarantee = amount_of s }))
+abbrev pub guarantee_in : List ℕ → Change
+guarantee_in s = PlaceGuarantee (record { user = user_of s; guarantee = amount_of s })
 
 -- request
-abbrev pub request_for : List ℕ → Product → Decoded
+abbrev pub request_for : List ℕ → Product → Change
 request_for s product =
-    IsCall (RequestCapacity (record { user = user_of s; point = point_of s; product = product; arrival = arrival_of s; amount = amount_of s }))
+    RequestCapacity (record { user = user_of s; point = point_of s; product = product; arrival = arrival_of s; amount = amount_of s })
 
 -- "R: 1 annual, 2 month, 3 day"; "an R of another kind .. is no call"
-unfoldable pub request_in : List ℕ → Decoded
+unfoldable pub request_in : List ℕ → Option Change
 request_in s =
-    cond (eqb (kind_of s) 1) (request_for s Annual)
-    (cond (eqb (kind_of s) 2) (request_for s (Month (month_of s)))
-    (cond (eqb (kind_of s) 3) (request_for s (Day (day_of s)))
-    NoCall))
+    cond (eqb (kind_of s) 1) (Some (request_for s Annual))
+    (cond (eqb (kind_of s) 2) (Some (request_for s (Month (month_of s))))
+    (cond (eqb (kind_of s) 3) (Some (request_for s (Day (day_of s))))
+    None))
 
 -- cession
-abbrev pub cession_in : List ℕ → Decoded
+abbrev pub cession_in : List ℕ → Change
 cession_in s =
-    IsCall (CedeCapacity (record { giver = user_of s; receiver = receiver_of s; point = point_of s; arrival = arrival_of s; amount = amount_of s }))
+    CedeCapacity (record { giver = user_of s; receiver = receiver_of s; point = point_of s; arrival = arrival_of s; amount = amount_of s })
 
 -- turn
-abbrev pub turn_in : List ℕ → Decoded
-turn_in s = IsCall (TurnYear (year_of s))
+abbrev pub turn_in : List ℕ → Change
+turn_in s = TurnYear (year_of s)
 
 -- "P, G, R, C, Y in ASCII"
 abbrev pub letter_p : ℕ
@@ -118,18 +117,18 @@ abbrev pub letter_y : ℕ
 letter_y = 89
 
 -- "letter (P, G, R, C, Y .., as open, guarantee, request, cession, turn)"; "An unknown letter .. is no call"
-unfoldable pub call_in : List ℕ → Decoded
+unfoldable pub call_in : List ℕ → Option Change
 call_in s =
-    cond (eqb (letter_of s) letter_p) (opening_in s)
-    (cond (eqb (letter_of s) letter_g) (guarantee_in s)
+    cond (eqb (letter_of s) letter_p) (Some (opening_in s))
+    (cond (eqb (letter_of s) letter_g) (Some (guarantee_in s))
     (cond (eqb (letter_of s) letter_r) (request_in s)
-    (cond (eqb (letter_of s) letter_c) (cession_in s)
-    (cond (eqb (letter_of s) letter_y) (turn_in s)
-    NoCall))))
+    (cond (eqb (letter_of s) letter_c) (Some (cession_in s))
+    (cond (eqb (letter_of s) letter_y) (Some (turn_in s))
+    None))))
 
 -- the call that a record holds. "a short last record is no call"
-abbrev pub decoded : List ℕ → Decoded
-decoded s = cond (ltb (length s) record_length) NoCall (call_in s)
+abbrev pub decoded : List ℕ → Option Change
+decoded s = cond (ltb (length s) record_length) None (call_in s)
 
 -- ---- "fields a letter doesn't use are not read": the bytes that have a say in the call
 abbrev pub request_uses : ℕ → ℕ → Bool

@@ -1,6 +1,6 @@
 // The call that a record of 24 bytes holds. Only the fields that its letter uses are read.
-ghost use Rattle.std.specs.Prelude.{◌≡◌, [], ◌∷◌, ◌+◌, ◌*◌, ◌≤◌, length};
-ghost use Rattle.records.specs.Records.{little_endian, number_at, opening_in, guarantee_in, request_for, request_in, cession_in, turn_in, call_in, decoded};
+ghost use Rattle.std.specs.Prelude.{◌≡◌};
+ghost use Rattle.records.specs.Records.{day_of, arrival_of, year_of, rate_of, amount_of, opening_in, guarantee_in, request_for, request_in, cession_in, turn_in, call_in, decoded};
 
 use cessions::Cession;
 use history::{Change, Guarantee, Opening};
@@ -9,155 +9,126 @@ use requests::{Product, Request};
 // How many bytes a record has.
 pub const RECORD: usize = 24;
 
-// What a record is: a call, or none. No record holds a batch.
-#[derive(Drop)]
-pub enum Decoded {
-    IsCall(Change),
-    NoCall,
-}
-
-fn two_bytes(low: u8, high: u8) -> u16
-    ensures { result ≡ little_endian (low ∷ high ∷ []) }
+#[tactic(auto, unfolding(crate::specs::Records::number_at))]
+fn day_of(s: &[u8; RECORD]) -> u16
+    ensures { result ≡ day_of s.now }
 {
-    (low as u16) + 256 * (high as u16)
+    u16::from_le_bytes([s[6], s[7]])
 }
 
-fn four_bytes(a: u8, b: u8, c: u8, d: u8) -> u32
-    ensures { result ≡ little_endian (a ∷ b ∷ c ∷ d ∷ []) }
+#[tactic(auto, unfolding(crate::specs::Records::number_at))]
+fn arrival_of(s: &[u8; RECORD]) -> u16
+    ensures { result ≡ arrival_of s.now }
 {
-    (a as u32) + 256 * (b as u32) + 65_536 * (c as u32) + 16_777_216 * (d as u32)
+    u16::from_le_bytes([s[8], s[9]])
 }
 
-fn two_halves(low: u32, high: u32) -> u64
-    ensures { result ≡ low + 4294967296 * high }
+#[tactic(auto, unfolding(crate::specs::Records::number_at))]
+fn year_of(s: &[u8; RECORD]) -> u16
+    ensures { result ≡ year_of s.now }
 {
-    (low as u64) + 4_294_967_296 * (high as u64)
+    u16::from_le_bytes([s[10], s[11]])
 }
 
-// The number in two bytes of a record, in four and in eight.
-fn two_at(s: &[u8], at: usize) -> u16
-    requires { at + 2 ≤ length s.now }
-    ensures { result ≡ number_at s.now at 2 }
+#[tactic(auto, unfolding(crate::specs::Records::number_at))]
+fn rate_of(s: &[u8; RECORD]) -> u32
+    ensures { result ≡ rate_of s.now }
 {
-    two_bytes(s[at], s[at + 1])
+    u32::from_le_bytes([s[12], s[13], s[14], s[15]])
 }
 
-fn four_at(s: &[u8], at: usize) -> u32
-    requires { at + 4 ≤ length s.now }
-    ensures { result ≡ number_at s.now at 4 }
+// The amount, total or guarantee.
+#[tactic(auto, unfolding(crate::specs::Records::number_at))]
+fn amount_of(s: &[u8; RECORD]) -> u64
+    ensures { result ≡ amount_of s.now }
 {
-    let second = at + 1;
-    let third = second + 1;
-    four_bytes(s[at], s[second], s[third], s[third + 1])
+    u64::from_le_bytes([s[16], s[17], s[18], s[19], s[20], s[21], s[22], s[23]])
 }
 
-fn eight_at(s: &[u8], at: usize) -> u64
-    requires { at + 8 ≤ length s.now }
-    ensures { result ≡ number_at s.now at 8 }
-{
-    two_halves(four_at(s, at), four_at(s, at + 4))
-}
-
-fn opening_in(s: &[u8]) -> Decoded
-    requires { 24 ≤ length s.now }
+fn opening_in(s: &[u8; RECORD]) -> Change
     ensures { result ≡ opening_in s.now }
 {
-    let total = eight_at(s, 16);
-    let rate = four_at(s, 12);
-    Decoded::IsCall(Change::OpenPoint(Opening {
+    Change::OpenPoint(Opening {
         point: s[2],
         kind: s[1],
-        total,
-        rate,
-    }))
+        total: amount_of(s),
+        rate: rate_of(s),
+    })
 }
 
-fn guarantee_in(s: &[u8]) -> Decoded
-    requires { 24 ≤ length s.now }
+fn guarantee_in(s: &[u8; RECORD]) -> Change
     ensures { result ≡ guarantee_in s.now }
 {
-    let guarantee = eight_at(s, 16);
-    Decoded::IsCall(Change::PlaceGuarantee(Guarantee {
+    Change::PlaceGuarantee(Guarantee {
         user: s[3],
-        guarantee,
-    }))
+        guarantee: amount_of(s),
+    })
 }
 
-fn request_for(s: &[u8], product: Product) -> Decoded
-    requires { 24 ≤ length s.now }
+fn request_for(s: &[u8; RECORD], product: Product) -> Change
     ensures { result ≡ request_for s.now product }
 {
-    let arrival = two_at(s, 8);
-    let amount = eight_at(s, 16);
-    Decoded::IsCall(Change::RequestCapacity(Request {
+    Change::RequestCapacity(Request {
         user: s[3],
         point: s[2],
         product,
-        arrival,
-        amount,
-    }))
+        arrival: arrival_of(s),
+        amount: amount_of(s),
+    })
 }
 
+// A request of a kind that there is not is no call.
 #[tactic(auto, using(crate::proofs::CallLaws::kinds))]
-fn request_in(s: &[u8]) -> Decoded
-    requires { 24 ≤ length s.now }
+fn request_in(s: &[u8; RECORD]) -> Option<Change>
     ensures { result ≡ request_in s.now }
 {
     let kind = s[1];
     match kind {
-        1 => request_for(s, Product::Annual),
-        2 => request_for(s, Product::Month(s[5])),
-        3 => request_for(s, Product::Day(two_at(s, 6))),
-        _ => Decoded::NoCall,
+        1 => Some(request_for(s, Product::Annual)),
+        2 => Some(request_for(s, Product::Month(s[5]))),
+        3 => Some(request_for(s, Product::Day(day_of(s)))),
+        _ => None,
     }
 }
 
-fn cession_in(s: &[u8]) -> Decoded
-    requires { 24 ≤ length s.now }
+fn cession_in(s: &[u8; RECORD]) -> Change
     ensures { result ≡ cession_in s.now }
 {
-    let arrival = two_at(s, 8);
-    let amount = eight_at(s, 16);
-    Decoded::IsCall(Change::CedeCapacity(Cession {
+    Change::CedeCapacity(Cession {
         giver: s[3],
         receiver: s[4],
         point: s[2],
-        arrival,
-        amount,
-    }))
+        arrival: arrival_of(s),
+        amount: amount_of(s),
+    })
 }
 
-fn turn_in(s: &[u8]) -> Decoded
-    requires { 24 ≤ length s.now }
+fn turn_in(s: &[u8; RECORD]) -> Change
     ensures { result ≡ turn_in s.now }
 {
-    let year = two_at(s, 10);
-    Decoded::IsCall(Change::TurnYear(year))
+    Change::TurnYear(year_of(s))
 }
 
 #[tactic(auto, using(crate::proofs::CallLaws::letters))]
-fn call_in(s: &[u8]) -> Decoded
-    requires { 24 ≤ length s.now }
+fn call_in(s: &[u8; RECORD]) -> Option<Change>
     ensures { result ≡ call_in s.now }
 {
     let letter = s[0];
     match letter {
-        b'P' => opening_in(s),
-        b'G' => guarantee_in(s),
+        b'P' => Some(opening_in(s)),
+        b'G' => Some(guarantee_in(s)),
         b'R' => request_in(s),
-        b'C' => cession_in(s),
-        b'Y' => turn_in(s),
-        _ => Decoded::NoCall,
+        b'C' => Some(cession_in(s)),
+        b'Y' => Some(turn_in(s)),
+        _ => None,
     }
 }
 
-// The call that a record holds. Bytes behind the 24th are not looked at. Fewer than 24, an unknown letter or an R of another kind
-// are no call.
-pub fn decode(s: &[u8]) -> Decoded
+// The call that a record holds, if it holds one; none holds a batch. Bytes behind the 24th are not looked at. Fewer than 24, an
+// unknown letter or an R of another kind are no call.
+#[tactic(auto, using(crate::proofs::CallLaws::cut, crate::proofs::CallLaws::short))]
+pub fn decode(s: &[u8]) -> Option<Change>
     ensures { result ≡ decoded s.now }
 {
-    if s.len() < RECORD {
-        return Decoded::NoCall;
-    }
-    call_in(s)
+    call_in(s.first_chunk::<RECORD>()?)
 }

@@ -5,4 +5,4 @@
 
 mod decoding;
 
-pub use decoding::{Decoded, RECORD, decode};
+pub use decoding::{RECORD, decode};
