@@ -3,22 +3,26 @@
 use mathlib.Core.Path.{◌≡◌, refl, sym, ap, ◌∙◌}
 use mathlib.Core.Bool.{Bool, true, false}
 use mathlib.Core.List.{List}
-use Prim.Native.Nat.{ℕ, zero, suc, ◌+◌, ◌*◌, ◌%◌, ◌≤◌, ◌<◌}
+use Prim.Native.Nat.{ℕ, zero, suc, ◌+◌, ◌%◌, ◌≤◌, ◌<◌}
 use native.Mathlib.Numerals.{add-one}
 use native.Mathlib.Omega.{arith}
 use lib.ListN.{get_or, length}
+use Rattle.std.specs.Prelude.{Some}
 use Rattle.calendar.specs.ThermalYears.{is_thermal_year, thermal_first, thermal_last}
+use Rattle.calendar.specs.declared.thermal_years.Span.{Span}
+use Rattle.calendar.specs.Answers.{year_answer}
+use Rattle.calendar.proofs.SpanLaws.{year_span}
 use Rattle.days.proofs.Ranges.{both}
 use Rattle.parts.specs.declared.points.Point.{Point}
 use Rattle.parts.specs.declared.accounts.Account.{Account}
 use Rattle.parts.specs.declared.registers.Register.{Register}
-use Rattle.parts.specs.Limits.{point_count, row_length, most_amount}
+use Rattle.parts.specs.Limits.{point_count, most_amount}
 use Rattle.amounts.specs.Amounts.{year_days, days_of_year, entry_at, entry_of, taken}
 use Rattle.parts.specs.Registers.{State, state, point_at, account_at, with_account, with_lines}
 use Rattle.amounts.proofs.AmountLaws.{days_of_lem, taken_none, taken_twice}
 use Rattle.amounts.proofs.CalendarLaws.{year_facts}
 use Rattle.conferral.specs.declared.bookings.Grant.{Grant}
-use Rattle.conferral.specs.Bookings.{days_of, book_after}
+use Rattle.conferral.specs.Bookings.{days_of, annual_of, book_after}
 use Rattle.conferral.specs.Postings.{room_for, Posting, posting, post_after}
 use Rattle.conferral.proofs.PostingLaws.{own_user, room_facts, posted_booked, after_year, after_points}
 use Rattle.spans.specs.Spans.{span_fits, span_in_year}
@@ -27,7 +31,7 @@ use Rattle.shares.specs.Batches.{Batch, lines_of, grant_for}
 use Rattle.shares.specs.ShareLines.{most_lines, shares_of, numbers_of, shares_listed, numbers_listed}
 use Rattle.shares.proofs.CanShareLaws.{shares_left_lem, numbers_left_lem, shares_long}
 use Rattle.batches.specs.ConferBatch.{batch_number, booked_lines}
-use Rattle.batches.specs.Steps.{grant_to, book_some}
+use Rattle.batches.specs.Steps.{book_some}
 use Rattle.batches.proofs.AnswerLaws.{facts, can_share_lem}
 use Rattle.batches.proofs.BookedLaws.{booked_some}
 
@@ -95,16 +99,15 @@ none_booked r f l p us shares = ap (λ (g : List ℕ). state r g l) (taken_none 
 
 -- all: the sum is taken
 pub sum_booked : (r s : Register) (f l f' l' : List ℕ) (p : ℕ) (us shares : List ℕ) (n days sum : ℕ) → is_thermal_year r.year ≡ true → days ≡ days_of_year r.year
-    → f' ≡ taken f (row_length * p) days sum
+    → f' ≡ taken f (entry_at p 0) days sum
     → state s (taken f (entry_at p 0) (year_days r.year) sum) l' ≡ book_some (state r f l) r.year p us shares n
     → state s f' l' ≡ book_some (state r f l) r.year p us shares n
 sum_booked r s f l f' l' p us shares n days sum hy long so booked =
-    let at : row_length * p ≡ entry_at p 0 = omega arith in
-    rw (so, at, long, days_of_lem r.year hy) booked
+    rw (so, long, days_of_lem r.year hy) booked
 
--- the grant of a share
-pub grant_to_lem : (y p u a : ℕ) (whole g : Grant) → whole ≡ grant_for y 0 p 0 → g ≡ grant_to whole u a → g ≡ grant_for y u p a
-grant_to_lem y p u a whole g w e = e ∙ ap (λ (x : Grant). grant_to x u a) w
+-- the annual grant of a share on the days of the year is that of its line
+pub share_grant : (y u p a : ℕ) (days : Span) (g : Grant) → year_answer y ≡ Some days → g ≡ annual_of u p days a → g ≡ grant_for y u p a
+share_grant y u p a days g h e = let w = year_span y days h in rw (sym w.begins, sym w.ends) e
 
 -- what is booked is at most the limit
 pub post_most : (n : ℕ) (x y : Account) (p : Point) (g : Grant) (l l' : List ℕ) (m amount : ℕ) → posting y m amount l' ≡ post_after n x p g l → amount ≤ most_amount

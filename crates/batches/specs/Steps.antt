@@ -2,14 +2,8 @@
 -- Assumes nothing.
 use Rattle.std.specs.Prelude.{ℕ, zero, suc, List, get_or}
 use Rattle.parts.specs.Registers.{State}
-use Rattle.conferral.specs.declared.bookings.Grant.{Grant}
 use Rattle.conferral.specs.Bookings.{book_after}
 use Rattle.shares.specs.Batches.{grant_for}
-
--- a grant of another amount to another user
-abbrev pub grant_to : Grant → ℕ → ℕ → Grant
-grant_to g u amount =
-    record { user = u; point = g.point; kind = g.kind; first = g.first; last = g.last; amount = amount }
 
 -- the first n shares of a list, each booked where the register has room for it: a share of 0 never has
 unfoldable pub book_some : State → ℕ → ℕ → List ℕ → List ℕ → ℕ → State

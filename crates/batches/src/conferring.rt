@@ -9,8 +9,7 @@ ghost use Rattle.shares.specs.ShareLines.{most_lines, shares_of, numbers_of};
 ghost use Rattle.batches.specs.ConferBatch.{batch_number, booked_lines, batch_after, shares_after, numbers_after};
 ghost use Rattle.batches.specs.Steps.{book_some};
 
-use crate::lines::{grant_to, year_grant};
-use conferral::USERS;
+use conferral::{Grant, USERS};
 use register::{Answered, Refusal, Register, View};
 use shares::Batch;
 
@@ -36,8 +35,9 @@ fn batch_answer(v: View, b: Batch, shares: usize, numbers: usize) -> Result<(), 
 }
 
 // Books each share above 0, in the order of the lines, and takes their sum from each day of the year. A share of 0 has no room in any
-// register and is left out. The register is altered in its place: one that went through a call for each share would be copied as often.
-#[tactic(auto, using(crate::proofs::LoopLaws::none_booked))]
+// register and is left out. Year and point are asked about before, by questions 1 and 2: a type for one that was asked about would
+// stand for one number, and be opened at once. The register is altered in its place: one that went through a call for each share would be copied as often.
+#[tactic(auto, using(crate::proofs::LoopLaws::none_booked), unfolding(calendar::specs::Answers::year_answer))]
 fn book_shares(
     mut r: Register,
     free: &mut [u32],
@@ -51,18 +51,17 @@ fn book_shares(
         r.year b.entry.point b.entry.users.now shares.now (length b.entry.users.now) }
 {
     let p = r.points[b.point as usize];
-    let whole = year_grant(r.year, 0, b.point, 0);
-    let days = register::days_of_year(r.year);
+    let days = calendar::thermal_year(r.year).unwrap();
+    let places = register::days_of_year(r.year);
     let mut sum: u32 = 0;
     for (user, share) in b.users.iter().zip(shares) {
-        let g = grant_to(whole, *user, *share);
+        let g = Grant::annual(*user, b.point, days, *share);
         let place = (g.user % USERS) as usize;
-        let posted = conferral::post(r.lines, r.accounts[place], p, ledger, g);
-        r.accounts[place] = posted.account;
-        r.lines = posted.lines;
-        sum += posted.amount;
+        let mut lines = r.lines;
+        sum += conferral::post(&mut lines, &mut r.accounts[place], p, ledger, g);
+        r.lines = lines;
     }
-    register::take_free(free, register::ROW * (b.point as usize), days, sum);
+    register::take_free(free, register::row_of(b.point), places, sum);
     r
 }
 

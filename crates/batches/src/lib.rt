@@ -6,7 +6,6 @@
 #![tactic(auto)]
 
 mod conferring;
-mod lines;
 
 pub use conferring::confer_batch;
 pub use shares::{Batch, MOST_LINES};

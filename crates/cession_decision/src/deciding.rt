@@ -24,9 +24,7 @@ pub struct Cession {
 // A cession arrives by this working day of a month.
 const DEADLINE: u8 = 16;
 
-// The kind of the ledger lines that it writes, a number as the lent ledger has it, and how many they are.
-pub const ANNUAL: u8 = 1;
-
+// It writes so many ledger lines.
 pub const LINES_WRITTEN: usize = 2;
 
 // What an accepted cession needs: the first day of its lines and the charge that moves.
@@ -68,24 +66,16 @@ fn span_of(year: u16, arrival: u16) -> Option<Span>
     conferral::annual_span(year, arrival)
 }
 
-// The charge of a cession on the days of the span: that of an annual grant to the receiver.
+// The charge of a cession on the days of the span: that of an annual grant to the receiver. The span is that of the call: it is found
+// once and passed on, here and to `decide_held`, and a struct of both would hold the call's two days twice.
 #[tactic(auto, using(crate::proofs::CessionLaws::charge_is))]
 fn cession_charge(r: &Register, c: Cession, days: Span) -> u64
     requires fields { cession_fields c ≡ true }
     requires span { Spanned r.now c days }
     ensures { result ≡ charge_of r.now c }
 {
-    conferral::charge_within(
-        r,
-        Grant {
-            user: c.receiver,
-            point: c.point,
-            kind: ANNUAL,
-            first: days.first,
-            last: days.last,
-            amount: c.amount as u32,
-        },
-    )
+    let g = Grant::annual(c.receiver, c.point, days, c.amount as u32);
+    conferral::charge_within(r, g)
 }
 
 // Question 1 again, 11 and 13.

@@ -6,4 +6,4 @@
 
 mod deciding;
 
-pub use deciding::{ANNUAL, Cession, Handover, LINES_WRITTEN, decide};
+pub use deciding::{Cession, Handover, LINES_WRITTEN, decide};

@@ -18,22 +18,20 @@ fn moved_register(mut r: Register, c: Cession, charge: u64) -> Register
     requires lines { r.lines + 2 ≤ line_count }
     ensures { result ≡ with_lines (charge_moved r c charge) (r.lines + 2) }
 {
-    let lowered = r.accounts[c.giver as usize].discharged(charge);
-    let raised = r.accounts[c.receiver as usize].charged(charge);
-    r.accounts[c.giver as usize] = lowered;
-    r.accounts[c.receiver as usize] = raised;
+    r.accounts[c.giver as usize] = r.accounts[c.giver as usize].discharged(charge);
+    r.accounts[c.receiver as usize] = r.accounts[c.receiver as usize].charged(charge);
     r.lines += cession_decision::LINES_WRITTEN as u16;
     r
 }
 
-// An annual ledger line.
+// An annual ledger line. It is no grant's, since the amount of one of the two is negative.
 fn annual_line(user: u8, point: u8, first: u16, amount: i32) -> Line
     ensures { result ≡ annual_line user point first amount }
 {
     Line {
         user: user as u32,
         point: point as u32,
-        kind: cession_decision::ANNUAL as u32,
+        kind: conferral::ANNUAL as u32,
         first: first as u32,
         amount,
     }
@@ -48,12 +46,12 @@ fn write_two_lines(ledger: &mut [u32], n: u16, before: Line, after: Line)
 }
 
 // Cedes an amount: its charge moves from the giver's commitment to the receiver's, and two annual lines are written, minus then
-// plus. The free amounts don't move: they are lent as to every other call, since the C interface lends all calls the same.
-pub fn cede_capacity(r: Register, free: &mut [u32], ledger: &mut [u32], c: Cession) -> Answered<u32>
-    ensures number { number_of_answer result.answer ≡ cession_number (state r free.old ledger.old) c }
-    ensures amount { amount_of_answer result.answer ≡ cession_amount (state r free.old ledger.old) c }
-    ensures state { state result.register free.new ledger.new ≡ cession_after
-        (state r free.old ledger.old) c }
+// plus. The free amounts don't move, and are lent to be read.
+pub fn cede_capacity(r: Register, free: &[u32], ledger: &mut [u32], c: Cession) -> Answered<u32>
+    ensures number { number_of_answer result.answer ≡ cession_number (state r free.now ledger.old) c }
+    ensures amount { amount_of_answer result.answer ≡ cession_amount (state r free.now ledger.old) c }
+    ensures state { state result.register free.now ledger.new ≡ cession_after
+        (state r free.now ledger.old) c }
 {
     let v = View {
         register: &r,
@@ -71,9 +69,6 @@ pub fn cede_capacity(r: Register, free: &mut [u32], ledger: &mut [u32], c: Cessi
                 answer: Ok(c.amount as u32),
             }
         }
-        Err(why) => Answered {
-            register: r,
-            answer: Err(why),
-        },
+        Err(why) => Answered::refused(r, why),
     }
 }

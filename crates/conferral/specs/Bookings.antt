@@ -2,6 +2,7 @@
 -- Assumes nothing.
 use Rattle.std.specs.Prelude.{ℕ, ◌+◌, Bool, cond, ◌&&◌, List, [], ◌∷◌, leb, ltb, pos}
 use Rattle.days.specs.Days.{between}
+use Rattle.calendar.specs.declared.thermal_years.Span.{Span}
 use Rattle.parts.specs.declared.points.Point.{Point}
 use Rattle.parts.specs.declared.accounts.Account.{Account}
 use Rattle.ledger.specs.declared.ledger.Line.{Line}
@@ -26,6 +27,11 @@ lines_left r n = leb (r.lines + n) line_count
 -- the days of a grant
 abbrev pub days_of : Grant → ℕ
 days_of g = span_days g.first g.last
+
+-- an annual grant of an amount on each day of a span
+abbrev pub annual_of : ℕ → ℕ → Span → ℕ → Grant
+annual_of u p days amount =
+    record { user = u; point = p; kind = 1; first = days.first; last = days.last; amount = amount }
 
 -- "A charge is amount × days of the span × rate.": at the rate of the point
 abbrev pub charge_at : Point → Grant → ℕ

@@ -4,6 +4,7 @@ ghost use Rattle.parts.specs.Registers.{state};
 ghost use Rattle.conferral.specs.Bookings.{covers, charge_within, is_covered, book_after};
 ghost use Rattle.conferral.specs.Postings.{room_for, posting, post_after};
 
+use calendar::Span;
 use register::{Account, Line, Point, Register};
 use spans::is_span;
 
@@ -21,13 +22,8 @@ pub struct Grant {
     pub amount: u32,
 }
 
-// What a booking leaves of the account and of the number of lines, and the amount that is booked: that of the grant, or 0.
-#[derive(Drop)]
-pub struct Posted {
-    pub account: Account,
-    pub lines: u16,
-    pub amount: u32,
-}
+// The kind of an annual grant and of its ledger line.
+pub const ANNUAL: u8 = 1;
 
 // Users and points, as wide as a grant names them.
 pub const USERS: u8 = register::USERS as u8;
@@ -39,8 +35,29 @@ impl Grant {
     ghost use Rattle.days.specs.Days.{last_day};
     ghost use Rattle.parts.specs.Limits.{row_length, most_amount};
     ghost use Rattle.parts.specs.Tests.{every};
-    ghost use Rattle.conferral.specs.Bookings.{days_of, charge_at, line_of, field_tests, within_limits};
+    ghost use Rattle.conferral.specs.Bookings.{days_of, charge_at, line_of, annual_of, field_tests, within_limits};
     ghost use Rattle.conferral.specs.Postings.{days_ordered};
+
+    // The annual grant of an amount on each day of a span.
+    pub fn annual(user: u8, point: u8, days: Span, amount: u32) -> Grant
+        ensures { result ≡ annual_of user point days amount }
+    {
+        Grant {
+            user,
+            point,
+            kind: ANNUAL,
+            first: days.first,
+            last: days.last,
+            amount,
+        }
+    }
+
+    // How many days it has.
+    fn days(self) -> usize
+        ensures { result ≡ days_of self }
+    {
+        (self.last as usize + 1).saturating_sub(self.first as usize)
+    }
 
     // Whether user, point, kind and amount are within limits.
     fn has_fields_within_limits(self) -> bool
@@ -71,16 +88,14 @@ impl Grant {
 
     // The charge at a point.
     fn charge_at(self, p: Point) -> u64
-        requires ordered { self.first ≤ self.last }
-        requires ends { self.last ≤ last_day }
         requires days { days_of self ≤ row_length }
         requires amount { self.amount ≤ most_amount }
         ensures { result ≡ charge_at p self }
     {
-        register::charge_of(self.amount, self.last + 1 - self.first, p.rate)
+        register::charge_of(self.amount, self.days() as u16, p.rate)
     }
 
-    // The ledger line.
+    // The ledger line. No `From`: only an amount within limits is one of a line, which is signed.
     fn line(self) -> Line
         requires { self.amount ≤ most_amount }
         ensures { result ≡ line_of self }
@@ -139,24 +154,21 @@ fn has_room(lines: u16, a: Account, p: Point, g: Grant) -> bool
 }
 
 // Books a grant to the account of its user, at the point that it names: its charge joins the commitment and its line is written.
-// Where there is no room for it, everything is left. A batch books its shares so, one after another, and carries no register along.
+// Where there is no room for it, everything is left. What is answered is the amount that is booked, that of the grant or 0: it is what
+// is then taken from the days. A batch books its shares so, one after another, and carries no register along. An account and a point,
+// found by what a grant names: a struct of both would be made for the call alone. Callers lend it a copy of the register's number of
+// lines: of a call that is lent two parts of one register, the borrow checker of the proofs covers nothing.
 #[tactic(auto, using(crate::proofs::PostingLaws::room_facts, crate::proofs::RoomLaws::charged_exact), unfolding(crate::specs::Postings::post_after))]
-pub fn post(lines: u16, a: Account, p: Point, ledger: &mut [u32], g: Grant) -> Posted
-    ensures { posting result.account result.lines result.amount ledger.new ≡ post_after lines a p g ledger.old }
+pub fn post(lines: &mut u16, a: &mut Account, p: Point, ledger: &mut [u32], g: Grant) -> u32
+    ensures { posting a.new lines.new result ledger.new ≡ post_after lines.old a.old p g ledger.old }
 {
-    if !has_room(lines, a, p, g) {
-        return Posted {
-            account: a,
-            lines,
-            amount: 0,
-        };
+    if !has_room(*lines, *a, p, g) {
+        return 0;
     }
-    register::write_line(ledger, lines as usize, g.line());
-    Posted {
-        account: a.charged(g.charge_at(p)),
-        lines: lines + 1,
-        amount: g.amount,
-    }
+    register::write_line(ledger, *lines as usize, g.line());
+    *a = a.charged(g.charge_at(p));
+    *lines += 1;
+    g.amount
 }
 
 // Books a grant: takes it from each of its days, adds its charge to the commitment and writes its line. Where the register has no
@@ -170,11 +182,10 @@ pub fn book(mut r: Register, free: &mut [u32], ledger: &mut [u32], g: Grant) -> 
     }
     let user = (g.user % USERS) as usize;
     let p = r.points[(g.point % POINTS) as usize];
-    let posted = post(r.lines, r.accounts[user], p, ledger, g);
-    let places = g.last as usize + 1 - g.first as usize;
+    let mut lines = r.lines;
+    let amount = post(&mut lines, &mut r.accounts[user], p, ledger, g);
+    r.lines = lines;
     let place = register::entry_in(r.year, g.point, g.first);
-    register::take_free(free, place, places, posted.amount);
-    r.accounts[user] = posted.account;
-    r.lines = posted.lines;
+    register::take_free(free, place, g.days(), amount);
     r
 }

@@ -64,7 +64,7 @@ pub fn apply(
             };
             Applied::from(batches::confer_batch(r, free, ledger, b, shares, numbers))
         }
-        Change::CedeCapacity(c) => Applied::from(cessions::cede_capacity(r, free, ledger, c)),
+        Change::CedeCapacity(c) => Applied::from(cessions::cede_capacity(r, &free[..], ledger, c)),
         Change::TurnYear(year) => Applied::from(turning::turn_year(r, free, ledger, year)),
     }
 }

@@ -33,5 +33,5 @@ pub fn ylgrandi_cession(
         arrival,
         amount,
     };
-    Applied::from(cessions::cede_capacity(r, free, ledger, c))
+    Applied::from(cessions::cede_capacity(r, &free[..], ledger, c))
 }

@@ -38,4 +38,4 @@ returns-in-Ok c =
 pub returns-in-Err : goal.returns-in-Err
 returns-in-Err c =
     let t = refused (state c.args.r c.args.free.now c.args.ledger.now) c.args.c c.in-Err.why c.in-Err.ensures in
-    record { number = t.0; amount = t.1.0; state = t.1.1 }
+    rw (c.refused.ensures.answer, c.refused.ensures.register) (record { number = t.0; amount = t.1.0; state = t.1.1 })
