@@ -20,7 +20,7 @@ fn fields_within_limits(q: Request) -> bool
         & products::is_month_within_limits(q.product)
 }
 
-// The grant of an amount on each day of a span.
+// The grant of an amount on each day of a span. A literal: its fields come from a request and a span, and no other grant's do.
 fn grant_from(q: Request, days: Span, amount: u32) -> Grant
     ensures { result ≡ grant_from q days amount }
 {
@@ -34,7 +34,8 @@ fn grant_from(q: Request, days: Span, amount: u32) -> Grant
     }
 }
 
-// Questions 11, 12 and 13 of the days of the span.
+// Questions 11, 12 and 13 of the days of the span. The span is that of the call: it is found once and passed on, and a struct of both
+// would hold the call's two days twice.
 #[tactic(auto, using(crate::proofs::AmountTests::amount_tests))]
 fn decide_amount(v: View, q: Request, days: Span) -> Result<Grant, Refusal>
     requires { (request_fields q ≡ true) × Spanned (state_in v).register q days }
@@ -42,9 +43,8 @@ fn decide_amount(v: View, q: Request, days: Span) -> Result<Grant, Refusal>
 {
     let r = v.register;
     let asked = grant_from(q, days, q.amount as u32);
-    let places = days.last as usize + 1 - days.first as usize;
     let place = register::entry_in(r.year, q.point, days.first);
-    let amount = register::least_free(v.free, place, places, asked.amount);
+    let amount = register::least_free(v.free, place, days.days(), asked.amount);
     let granted = grant_from(q, days, amount);
     // The guarantee has to cover what is asked, not only what is granted.
     if !conferral::is_covered(r, asked) {

@@ -5,8 +5,9 @@ ghost use Rattle.shares.specs.ShareLines.{lengths_fit};
 // A batch has at most so many lines.
 pub const MOST_LINES: usize = 64;
 
-// A batch at a point: the user and the asked amount of each line, in two lists of equal length. The lists for shares and numbers stand
-// beside it, since they are written.
+// A batch at a point: the user and the asked amount of each line, in two lists of equal length. That they are of one length is
+// question 2, and so no invariant. The lists for shares and numbers stand beside it, since they are written; the numbers are those of
+// the host's list, 0 where a line passed its questions.
 #[derive(Clone, Copy)]
 pub struct Batch<'a> {
     pub point: u8,

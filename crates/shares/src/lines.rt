@@ -19,7 +19,7 @@ fn line_within_limits(user: u8, asked: u64) -> bool
 }
 
 // Questions 2, 14, 5 and 11 of a line, in a year of so many days: whether an earlier line names its user is known, and so are the
-// account that it names and the point.
+// account that it names and the point: a struct of both would be made for the call alone.
 #[tactic(auto, using(crate::proofs::LoopLaws::line_amount), unfolding(crate::specs::Steps::number_for))]
 fn line_questions(
     days: u16,
@@ -48,7 +48,8 @@ fn line_questions(
 }
 
 // The number of each line by these questions. Users that lines have named are marked. Of a line whose user is not within limits any
-// account will do.
+// account will do. That the year is a thermal year and the point one of the 32 is asked before, by `can_share`: a type for a year or a
+// point that was asked about would stand for one number, and be opened at once.
 #[tactic(auto, using(crate::proofs::LoopLaws::days_most))]
 pub(crate) fn ask_lines(r: &Register, b: Batch, numbers: &mut [u8])
     requires { (is_thermal_year r.now.year ≡ true) × ((b.point < point_count) ×
@@ -57,6 +58,7 @@ pub(crate) fn ask_lines(r: &Register, b: Batch, numbers: &mut [u8])
 {
     let days = register::days_of_year(r.year) as u16;
     let p = r.points[b.point as usize];
+    // Marks in an array: a set would need the heap.
     let mut named = [false; 256];
     // By place: of what is written through a `zip` of `iter_mut` nothing is known to a proof.
     for i in 0..b.users.len() {

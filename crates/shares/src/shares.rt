@@ -12,13 +12,13 @@ use crate::lines::ask_lines;
 use crate::sharing::{share_out, sum_asked};
 use register::Register;
 
-// The smallest free amount of the year at a point.
+// The smallest free amount of the year at a point. Year and point are asked about before, as at `ask_lines`.
 #[tactic(auto, using(amounts::proofs::AmountLaws::days_of_lem))]
 fn free_of_year(year: u16, free: &[u32], point: u8) -> u32
     requires { (is_thermal_year year ≡ true) × ((point < point_count) × (length free.now ≡ table_length)) }
     ensures { result ≡ smallest free.now (entry_at point 0) (year_days year) }
 {
-    let at = register::ROW * (point as usize);
+    let at = register::row_of(point);
     register::least_free(free, at, register::days_of_year(year), free[at])
 }
 
