@@ -11,7 +11,9 @@ use lib.Seq.{length-take-le}
 use borrow.Author.Tests.{lt-ltb, le-ltb}
 use Rattle.parts.specs.Registers.{State, state, blank_register}
 use Rattle.parts.specs.declared.registers.Register.{Register}
-use Rattle.parts.proofs.AnswerLaws.{leaves_new, leaves_old}
+use Rattle.parts.specs.declared.answers.Refusal.{Refusal}
+use Rattle.parts.specs.Answers.{number_of_refusal}
+use Rattle.parts.proofs.AnswerLaws.{leaves_new, leaves_old, refusal_number}
 use Rattle.register.specs.Fresh.{fresh_number, fresh_state, fresh_after}
 use Rattle.reckoning.specs.Calls.{register_after}
 use Rattle.reckoning.specs.Reckoning.{reckoned}
@@ -72,11 +74,12 @@ module _ (input f ls out : List ℕ) where
   pub too_short : (r : Register) → length out < 33 * count_in (length input) → r ≡ blank_register 0 → Ends 2 (state r f ls) out 0
   too_short r h e = refused 2 (state r f ls) (sym (number_short h)) (λ z. omega (arith, z)) (ap (λ (x : Register). state x f ls) e)
 
-  pub other_length : (number : ℕ) (left : State) → 33 * count_in (length input) ≤ length out → number ≡ fresh_number 2000 f ls → (number ≡ 0 → ⊥)
-      → left ≡ fresh_after 2000 f ls → Ends number left out 0
+  pub other_length : (why : Refusal) (left : State) → 33 * count_in (length input) ≤ length out → number_of_refusal why ≡ fresh_number 2000 f ls
+      → left ≡ fresh_after 2000 f ls → Ends (number_of_refusal why) left out 0
   unfolding fresh_after
-  other_length number left h en some el =
-      refused number left (en ∙ sym (number_fresh h)) some (el ∙ leaves_old (fresh_number 2000 f ls) _ _ (λ z. some (en ∙ z)))
+  other_length why left h en el =
+      let some : number_of_refusal why ≡ 0 → ⊥ = λ z. omega (arith, refusal_number why, z) in
+      refused (number_of_refusal why) left (en ∙ sym (number_fresh h)) some (el ∙ leaves_old (fresh_number 2000 f ls) _ _ (λ z. some (en ∙ z)))
 
   -- a run that makes its calls
   pub all_made : (start left : State) (bytes : List ℕ) (written : ℕ) → 33 * count_in (length input) ≤ length out → fresh_number 2000 f ls ≡ 0

@@ -1,7 +1,7 @@
 -- The records of an input: how many there are, and what is left of them after some.
 -- Assumes nothing.
 use Prim.Native.Nat.{ℕ, zero, suc, ◌+◌, ◌*◌, ◌-◌, ◌/◌, ◌≤◌, ◌<◌, min}
-use mathlib.Core.Path.{◌≡◌, refl, ap, sym, ◌∙◌}
+use mathlib.Core.Path.{◌≡◌, refl, ap, ◌∙◌}
 use mathlib.Core.Bool.{Bool, true, false}
 use mathlib.Core.List.{List, [], ◌∷◌}
 use native.Mathlib.Nat.{not-suc-le-zero}
@@ -11,7 +11,9 @@ use borrow.Author.Tests.{ltb-true, ltb-false}
 use lib.ListN.{length, take, drop, length-drop, drop_of_length-le}
 use lib.Seq.{take_all, drop-drop}
 use Rattle.records.specs.Records.{decoded}
-use Rattle.records.specs.declared.decoding.Decoded.{Decoded}
+use Rattle.records.proofs.CallLaws.{first_24}
+use Rattle.history.specs.declared.changes.Change.{Change}
+use Rattle.std.specs.Prelude.{Option}
 use Rattle.runs.specs.Runs.{records_of, decoded_all}
 use Rattle.runs.specs.Steps.{count_in, record_at}
 
@@ -41,7 +43,7 @@ no_record zero bytes e = refl
 no_record (suc most) bytes e = rw e
 
 -- what the records from the k-th on are
-unfoldable pub rest_from : List ℕ → ℕ → List Decoded
+unfoldable pub rest_from : List ℕ → ℕ → List (Option Change)
 rest_from input k = decoded_all (records_of (2000 - k) (drop (24 * k) input))
 
 pub rest_all : (input : List ℕ) → rest_from input 0 ≡ decoded_all (records_of 2000 input)
@@ -72,11 +74,9 @@ rest_none input k e = go (ltb k 2000) refl
         let none_left : 2000 - k ≡ 0 = omega (arith, ltb-false k 2000 h) in
         ap (λ (n : ℕ). decoded_all (records_of n (drop (24 * k) input))) none_left
 
--- the bytes that the code lends to `decode`
-pub short_record : (input : List ℕ) (k : ℕ) → length input - 24 * k < 24 → take (length input - 24 * k) (drop (24 * k) input) ≡ record_at input k
-short_record input k h =
-    take_all (length input - 24 * k) (drop (24 * k) input) (simp length-drop (omega arith))
-    ∙ sym (take_all 24 (drop (24 * k) input) (simp length-drop (omega arith)))
-
-pub whole_record : (input : List ℕ) (k n : ℕ) → n ≡ 24 → take n (drop (24 * k) input) ≡ record_at input k
-whole_record input k n e = rw e
+-- the bytes that the code lends to `decode`, which looks at no more than it needs
+pub record_found : (input : List ℕ) (k : ℕ) → decoded (take (length input - 24 * k) (drop (24 * k) input)) ≡ decoded (record_at input k)
+record_found input k =
+    let all : take (length input - 24 * k) (drop (24 * k) input) ≡ drop (24 * k) input =
+    take_all (length input - 24 * k) (drop (24 * k) input) (simp length-drop (omega arith)) in
+    rw all (first_24 (drop (24 * k) input))

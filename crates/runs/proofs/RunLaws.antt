@@ -8,11 +8,12 @@ use native.Mathlib.Omega.{arith}
 use lib.ListN.{length, drop, length-append}
 use lib.Seq.{sets, sets-eq}
 use Rattle.parts.specs.Registers.{State}
-use Rattle.records.specs.declared.decoding.Decoded.{Decoded}
-use Rattle.printing.proofs.WritingLaws.{sets_append}
+use Rattle.history.specs.declared.changes.Change.{Change}
+use Rattle.std.specs.Prelude.{Option}
+use Rattle.printing.proofs.WritingLaws.{sets_append, place_put, bytes_put}
 use Rattle.runs.specs.Runs.{answers_to, line_of, lines_from, decoded_in}
 use Rattle.runs.specs.Steps.{count_in, answer_at, left_at, left_by_all}
-use Rattle.runs.proofs.RecordLaws.{rest_from, rest_all, rest_next, rest_none}
+use Rattle.runs.proofs.RecordLaws.{rest_from, rest_all, rest_next, rest_none, record_begins}
 
 -- after k records, from the register and the lists s₀ and the buffer o₀, there are s and o, and the next place is p
 pub record Running (input : List ℕ) (s₀ : State) (o₀ : List ℕ) (k : ℕ) (s : State) (o : List ℕ) (p : ℕ) : Type 0 where
@@ -27,7 +28,7 @@ running_none input s₀ o₀ = record {
   text = [];
   place = refl;
   bytes = refl;
-  whole = ap (λ (ds : List Decoded). lines_from 1 (answers_to s₀ ds)) (rest_all input);
+  whole = ap (λ (ds : List (Option Change)). lines_from 1 (answers_to s₀ ds)) (rest_all input);
   left = ap (left_by_all s₀) (rest_all input);
 }
 
@@ -47,7 +48,7 @@ running_more input s₀ o₀ k {s} {s'} {o} {o'} {p} {p'} hk hl r es ep eo =
       whole =
           append_assoc r.text line _
           ∙ (ap (λ (t : State). r.text ++ (line ++ lines_from (k + 1 + 1) (answers_to t (rest_from input (k + 1))))) es
-          ∙ (ap (λ (ds : List Decoded). r.text ++ lines_from (k + 1) (answers_to s ds)) (sym next) ∙ r.whole));
+          ∙ (ap (λ (ds : List (Option Change)). r.text ++ lines_from (k + 1) (answers_to s ds)) (sym next) ∙ r.whole));
       left =
           ap (λ (t : State). left_by_all t (rest_from input (k + 1))) es
           ∙ (ap (left_by_all s) (sym next) ∙ r.left);
@@ -64,7 +65,7 @@ module _ (input : List ℕ) (s₀ : State) (o₀ : List ℕ) (k : ℕ) {s : Stat
 
   ran_text : r.text ≡ lines_from 1 (answers_to s₀ (decoded_in input))
   unfolding answers_to lines_from
-  ran_text = sym (append-nil r.text) ∙ (ap (λ (ds : List Decoded). r.text ++ lines_from (k + 1) (answers_to s ds)) (sym none) ∙ r.whole)
+  ran_text = sym (append-nil r.text) ∙ (ap (λ (ds : List (Option Change)). r.text ++ lines_from (k + 1) (answers_to s ds)) (sym none) ∙ r.whole)
 
   pub ran_place : p ≡ length (lines_from 1 (answers_to s₀ (decoded_in input)))
   ran_place = r.place ∙ ap length ran_text
@@ -76,3 +77,9 @@ module _ (input : List ℕ) (s₀ : State) (o₀ : List ℕ) (k : ℕ) {s : Stat
       ∙ (sets-eq r.text o₀ 0 fits
       ∙ (ap (λ (n : ℕ). r.text ++ drop n o₀) (zero-add (length r.text) ∙ sym r.place)
       ∙ ap (λ (t : List ℕ). t ++ drop p o₀) ran_text))
+
+-- by which the loop is proved
+pub ruleset runs_on = (running_none, running_more, record_begins)
+
+-- by which the line of a record is
+pub ruleset line_put = (place_put, bytes_put)

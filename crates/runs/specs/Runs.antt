@@ -10,8 +10,7 @@ use Rattle.history.specs.Changes.{call_of}
 use Rattle.reckoning.specs.Reckoning.{reckoned}
 use Rattle.reckoning.specs.Demand3.{Balances, Demand3}
 use Rattle.records.specs.Records.{record_length, decoded}
-use Rattle.records.specs.declared.decoding.Decoded.{Decoded}
-use Rattle.records.specs.declared.decoding.Decoded.TheVariants.{IsCall, NoCall}
+use Rattle.std.specs.Prelude.{Option, Some, None}
 use Rattle.printing.specs.Lines.{answer_line, longest_line}
 
 -- "starts from a fresh register of 2000"
@@ -33,11 +32,11 @@ abbrev pub records_in : List ℕ → List (List ℕ)
 records_in input = records_of most_records input
 
 -- what each of them is: a call, or none
-unfoldable pub decoded_all : List (List ℕ) → List Decoded
+unfoldable pub decoded_all : List (List ℕ) → List (Option Change)
 decoded_all [] = []
 decoded_all (s ∷ ss) = decoded s ∷ decoded_all ss
 
-abbrev pub decoded_in : List ℕ → List Decoded
+abbrev pub decoded_in : List ℕ → List (Option Change)
 decoded_in input = decoded_all (records_in input)
 
 -- the call itself. No record holds a batch, so the four lists are empty
@@ -45,35 +44,35 @@ abbrev pub call_held : Change → Call
 call_held c = call_of c [] [] 0 0
 
 -- the calls, in order
-unfoldable pub calls_among : List Decoded → List Call
+unfoldable pub calls_among : List (Option Change) → List Call
 calls_among [] = []
-calls_among (IsCall c ∷ ds) = call_held c ∷ calls_among ds
-calls_among (NoCall ∷ ds) = calls_among ds
+calls_among (Some c ∷ ds) = call_held c ∷ calls_among ds
+calls_among (None ∷ ds) = calls_among ds
 
 abbrev pub calls_in : List ℕ → List Call
 calls_in input = calls_among (decoded_in input)
 
 -- ---- what is answered
 -- a call's answer; what "is no call .. gives 2"
-abbrev pub answer_to : State → Decoded → Answer
-answer_to s (IsCall c) = answer s (call_held c)
-answer_to s NoCall = told 2 0
+abbrev pub answer_to : State → Option Change → Answer
+answer_to s (Some c) = answer s (call_held c)
+answer_to s None = told 2 0
 
 -- what is no call leaves everything
-abbrev pub left_by : State → Decoded → State
-left_by s (IsCall c) = after s (call_held c)
-left_by s NoCall = s
+abbrev pub left_by : State → Option Change → State
+left_by s (Some c) = after s (call_held c)
+left_by s None = s
 
-unfoldable pub answers_to : State → List Decoded → List Answer
+unfoldable pub answers_to : State → List (Option Change) → List Answer
 answers_to s [] = []
 answers_to s (d ∷ ds) = answer_to s d ∷ answers_to (left_by s d) ds
 
 -- the answers of those records that are calls
-unfoldable pub of_calls : List Decoded → List Answer → List Answer
+unfoldable pub of_calls : List (Option Change) → List Answer → List Answer
 of_calls [] told = []
 of_calls (d ∷ ds) [] = []
-of_calls (IsCall c ∷ ds) (a ∷ told) = a ∷ of_calls ds told
-of_calls (NoCall ∷ ds) (a ∷ told) = of_calls ds told
+of_calls (Some c ∷ ds) (a ∷ told) = a ∷ of_calls ds told
+of_calls (None ∷ ds) (a ∷ told) = of_calls ds told
 
 -- ---- what is printed
 -- "For each it prints position from 1, number (0 accepted), and amount granted or ceded (else 0)"

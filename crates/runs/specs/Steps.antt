@@ -4,7 +4,8 @@ use Rattle.std.specs.Prelude.{ℕ, ◌+◌, ◌*◌, ◌/◌, min, List, [], ◌
 use Rattle.parts.specs.Registers.{State}
 use Rattle.reckoning.specs.Calls.{Answer}
 use Rattle.records.specs.Records.{record_length, decoded}
-use Rattle.records.specs.declared.decoding.Decoded.{Decoded}
+use Rattle.history.specs.declared.changes.Change.{Change}
+use Rattle.std.specs.Prelude.{Option}
 use Rattle.runs.specs.Runs.{most_records, answer_to, left_by}
 
 -- how many records so many bytes have
@@ -23,6 +24,6 @@ unfoldable pub left_at : List ℕ → ℕ → State → State
 left_at input k s = left_by s (decoded (record_at input k))
 
 -- what some records leave
-unfoldable pub left_by_all : State → List Decoded → State
+unfoldable pub left_by_all : State → List (Option Change) → State
 left_by_all s [] = s
 left_by_all s (d ∷ ds) = left_by_all (left_by s d) ds

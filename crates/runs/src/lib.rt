@@ -5,4 +5,4 @@
 
 mod running;
 
-pub use running::{BUFFER, INPUT, Ran, run};
+pub use running::{BUFFER, INPUT, run};

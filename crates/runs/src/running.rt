@@ -2,13 +2,13 @@
 ghost use Rattle.std.specs.Prelude.{◌≡◌, ◌++◌, ◌+◌, ◌*◌, ◌≤◌, ◌<◌, length, take, drop};
 ghost use Rattle.std.proofs.lemmas.List.Edits.{sets};
 ghost use Rattle.parts.specs.Registers.{state};
+ghost use Rattle.parts.specs.Answers.{number_of_answer, amount_of_answer};
 ghost use Rattle.records.specs.Records.{decoded};
 ghost use Rattle.runs.specs.Runs.{decoded_in, answer_to, left_by, answers_to, line_of, lines_from, run_number, run_leaves, run_bytes, run_length, Accounted};
 ghost use Rattle.runs.specs.Steps.{count_in, record_at, answer_at, left_at, left_by_all};
 
-use history::Applied;
-use records::Decoded;
-use register::Register;
+use history::{Applied, Change};
+use parts::{Answered, Refusal, Register};
 
 // The year of the register that a run starts from.
 const FIRST_YEAR: u16 = 2000;
@@ -22,19 +22,6 @@ pub const INPUT: usize = 48_000;
 // A buffer of this length has room for the lines of any input.
 pub const BUFFER: usize = 66_000;
 
-// The number of a record that is no call, and that of a run without room for its lines.
-const NO_CALL: u8 = 2;
-
-const NO_ROOM: u8 = 2;
-
-// What a run leaves: the register, the number (0 accepted, 2 refused) and how many bytes of the buffer were written.
-#[derive(Drop)]
-pub struct Ran {
-    pub register: Register,
-    pub number: u8,
-    pub written: usize,
-}
-
 // The register and the next place in the buffer.
 #[derive(Drop)]
 struct Progress {
@@ -46,62 +33,38 @@ struct Progress {
 fn record_count(bytes: usize) -> usize
     ensures { (result ≡ count_in bytes) × (result ≤ 2000) }
 {
-    let whole = bytes / records::RECORD;
-    if MOST_RECORDS <= whole {
-        return MOST_RECORDS;
-    }
-    if bytes % records::RECORD == 0 {
-        return whole;
-    }
-    whole + 1
+    bytes.div_ceil(records::RECORD).min(MOST_RECORDS)
 }
 
 // What the k-th record is, counted from 0.
-fn record_at(input: &[u8], k: usize) -> Decoded
+#[tactic(auto, using(crate::proofs::RecordLaws::record_found))]
+fn record_at(input: &[u8], k: usize) -> Option<Change>
     requires { (k < 2000) × (24 * k ≤ length input.now) }
     ensures { result ≡ decoded (record_at input.now k) }
 {
-    let from = records::RECORD * k;
-    if input.len() - from < records::RECORD {
-        return records::decode(&input[from..]);
-    }
-    let end = from + records::RECORD;
-    records::decode(&input[from..end])
+    records::decode(&input[records::RECORD * k..])
 }
 
-// Makes the call of a record. What is no call is answered 2. No record holds a batch, so the lists of one are empty.
-fn make_call(r: Register, free: &mut [u32], ledger: &mut [u32], d: Decoded) -> Applied
+// Makes the call of a record. What is no call is answered 2, as what is out of limits. No record holds a batch, so the lists of one are
+// empty.
+fn make_call(r: Register, free: &mut [u32], ledger: &mut [u32], d: Option<Change>) -> Applied
     ensures number { result.number ≡ (answer_to (state r free.old ledger.old) d).number }
     ensures amount { result.amount ≡ (answer_to (state r free.old ledger.old) d).amount }
     ensures state { state result.register free.new ledger.new ≡ left_by
         (state r free.old ledger.old) d }
 {
     match d {
-        Decoded::IsCall(change) => {
-            let users = [0u8; 1];
-            let asked = [0u64; 1];
-            let mut shares = [0u32; 1];
-            let mut numbers = [0u8; 1];
-            history::apply(
-                r,
-                free,
-                ledger,
-                change,
-                &users[..0],
-                &asked[..0],
-                &mut shares[..0],
-                &mut numbers[..0],
-            )
-        }
-        Decoded::NoCall => Applied {
+        Some(change) => history::apply(r, free, ledger, change, &[], &[], &mut [], &mut []),
+        None => Applied {
             register: r,
-            number: NO_CALL,
+            number: u8::from(Refusal::OutOfLimits),
             amount: 0,
         },
     }
 }
 
 // One record: its call is made, and its line is written from a place on.
+#[tactic(auto, using(crate::proofs::RunLaws::line_put), unfolding(crate::specs::Steps::left_at, crate::specs::Steps::answer_at))]
 fn take_record(
     input: &[u8],
     k: usize,
@@ -122,17 +85,15 @@ fn take_record(
 {
     let d = record_at(input, k);
     let made = make_call(r, free, ledger, d);
-    let register = made.register;
-    let number = made.number;
-    let amount = made.amount;
-    let next = printing::put_line((k + 1) as u32, number, amount, out, place);
+    let next = printing::put_line((k + 1) as u32, made.number, made.amount, out, place);
     Progress {
-        register,
+        register: made.register,
         place: next,
     }
 }
 
 // All records, in order.
+#[tactic(auto, using(crate::proofs::RunLaws::runs_on))]
 fn take_records(
     input: &[u8],
     count: usize,
@@ -152,54 +113,42 @@ fn take_records(
 {
     let mut register = r;
     let mut place: usize = 0;
-    let mut k: usize = 0;
-    while k < count {
+    for k in 0..count {
         let after = take_record(input, k, register, free, ledger, out, place);
         register = after.register;
         place = after.place;
-        k += 1;
     }
     Progress { register, place }
 }
 
 // Starts a fresh register of 2000 in the two lists, makes the calls of the input's records, at most 2,000, in order, and writes a line
-// for each into the buffer. A table or a ledger of another length, or a buffer with fewer than 33 bytes for each record, is refused
-// with 2 before anything is done. `within` follows from the clauses before it, and is what a caller needs who lends on the part that
-// was written.
-pub fn run(input: &[u8], free: &mut [u32], ledger: &mut [u32], out: &mut [u8]) -> Ran
-    ensures number { result.number ≡ run_number input.now free.old ledger.old out.old }
+// for each into the buffer. It answers how many bytes of the buffer were written. A table or a ledger of another length, or a buffer
+// with fewer than 33 bytes for each record, is refused with 2 before anything is done. `within` follows from the clauses before it, and
+// is what a caller needs who lends on the part that was written.
+pub fn run(input: &[u8], free: &mut [u32], ledger: &mut [u32], out: &mut [u8]) -> Answered<usize>
+    ensures number { number_of_answer result.answer ≡ run_number input.now free.old ledger.old out.old }
     ensures state { state result.register free.new ledger.new ≡ run_leaves input.now free.old
         ledger.old out.old }
     ensures bytes { out.new ≡ run_bytes input.now free.old ledger.old out.old }
-    ensures written { result.written ≡ run_length input.now free.old ledger.old out.old }
-    ensures demand { result.number ≡ 0 → Accounted input.now
+    ensures written { amount_of_answer result.answer ≡ run_length input.now free.old ledger.old out.old }
+    ensures demand { number_of_answer result.answer ≡ 0 → Accounted input.now
         (state result.register free.new ledger.new) }
-    ensures within { (result.written ≤ length out.new) × (result.written ≡ length (take result.written out.new)) }
+    ensures within { (amount_of_answer result.answer ≤ length out.new) ×
+        (amount_of_answer result.answer ≡ length (take (amount_of_answer result.answer) out.new)) }
 {
     let count = record_count(input.len());
     if out.len() < printing::LINE * count {
-        return Ran {
-            register: parts::blank(0),
-            number: NO_ROOM,
-            written: 0,
-        };
+        return Answered::refused(parts::blank(0), Refusal::OutOfLimits);
     }
     let fresh = register::fresh_register(FIRST_YEAR, free, ledger);
-    let verdict = fresh.answer;
-    let number = register::verdict_number(verdict);
-    let start = fresh.register;
-    if number != 0 {
-        return Ran {
-            register: start,
-            number,
-            written: 0,
-        };
-    }
-    let after = take_records(input, count, start, free, ledger, out);
-    let register = after.register;
-    Ran {
-        register,
-        number: 0,
-        written: after.place,
+    match fresh.answer {
+        Ok(()) => {
+            let after = take_records(input, count, fresh.register, free, ledger, out);
+            Answered {
+                register: after.register,
+                answer: Ok(after.place),
+            }
+        }
+        Err(why) => Answered::refused(fresh.register, why),
     }
 }
