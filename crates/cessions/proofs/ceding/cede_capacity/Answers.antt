@@ -3,6 +3,7 @@ use Prim.Native.Nat.{◌<◌}
 use mir.Syntax.{w32}
 use mir.Facts.{to_z_pos}
 use Rattle.parts.specs.Registers.{state}
+use Rattle.parts.specs.Answers.{number_of_answer, amount_of_answer}
 use Rattle.order.proofs.OrderFacts.{guarantee_le}
 use Rattle.cession_decision.specs.CessionQuestions.{receiver_of}
 use Rattle.cessions.specs.CedeCapacity.{annual_line}
@@ -38,4 +39,4 @@ returns-in-Ok c =
 pub returns-in-Err : goal.returns-in-Err
 returns-in-Err c =
     let t = refused (state c.args.r c.args.free.now c.args.ledger.now) c.args.c c.in-Err.why c.in-Err.ensures in
-    rw (c.refused.ensures.answer, c.refused.ensures.register) (record { number = t.0; amount = t.1.0; state = t.1.1 })
+    record { number = ap number_of_answer c.refused.ensures.answer ∙ t.0; amount = ap amount_of_answer c.refused.ensures.answer ∙ t.1.0; state = rw c.refused.ensures.register t.1.1 }
