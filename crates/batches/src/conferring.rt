@@ -28,7 +28,7 @@ fn batch_answer(v: View, b: Batch, shares: usize, numbers: usize) -> Result<(), 
     if !p.is_open() {
         return Err(Refusal::PointClosed);
     }
-    if register::LINES < v.register.lines as usize + b.users.len() {
+    if !conferral::lines_left(v.register, b.users.len()) {
         return Err(Refusal::LedgerFull);
     }
     Ok(())

@@ -93,7 +93,7 @@ fn decide_charge(r: &Register, c: Cession, h: Handover) -> Result<Handover, Refu
     if !conferral::covers_charge(receiver, h.charge) {
         return Err(Refusal::NotCovered);
     }
-    if register::LINES < r.lines as usize + LINES_WRITTEN {
+    if !conferral::lines_left(r, LINES_WRITTEN) {
         return Err(Refusal::LedgerFull);
     }
     Ok(h)

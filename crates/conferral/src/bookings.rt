@@ -1,7 +1,7 @@
 // Grants: their charge, what a guarantee covers, and how they are booked.
 ghost use Rattle.std.specs.Prelude.{◌≡◌};
 ghost use Rattle.parts.specs.Registers.{state};
-ghost use Rattle.conferral.specs.Bookings.{covers, charge_within, is_covered, book_after};
+ghost use Rattle.conferral.specs.Bookings.{covers, lines_left, charge_within, is_covered, book_after};
 ghost use Rattle.conferral.specs.Postings.{room_for, posting, post_after};
 
 use calendar::Span;
@@ -128,6 +128,14 @@ pub fn covers_charge(a: Account, charge: u64) -> bool
     a.commitment
         .checked_add(charge)
         .is_some_and(|sum| sum <= a.guarantee)
+}
+
+// Question 13: whether so many lines are left in the ledger.
+pub fn lines_left(r: &Register, n: usize) -> bool
+    ensures { result ≡ lines_left r.now n }
+{
+    n.checked_add(r.lines as usize)
+        .is_some_and(|lines| lines <= register::LINES)
 }
 
 // Whether a grant is within limits and its user's guarantee covers its charge.

@@ -7,6 +7,6 @@
 mod bookings;
 
 pub use bookings::{
-    ANNUAL, Grant, POINTS, USERS, book, charge_within, covers_charge, is_covered, post,
+    ANNUAL, Grant, POINTS, USERS, book, charge_within, covers_charge, is_covered, lines_left, post,
 };
 pub use spans::{annual_span, is_arrival, is_timely};

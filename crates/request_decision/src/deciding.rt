@@ -53,7 +53,7 @@ fn decide_amount(v: View, q: Request, days: Span) -> Result<Grant, Refusal>
     if amount == 0 {
         return Err(Refusal::NothingFree);
     }
-    if register::LINES <= r.lines as usize {
+    if !conferral::lines_left(r, 1) {
         return Err(Refusal::LedgerFull);
     }
     Ok(granted)

@@ -15,13 +15,19 @@ pub struct Batch<'a> {
     pub asked: &'a [u64],
 }
 
+// Question 2 of the lengths of the four lists.
+pub fn lengths_fit(users: usize, asked: usize, shares: usize, numbers: usize) -> bool
+    ensures { result ≡ lengths_fit users asked shares numbers }
+{
+    ((1 <= users) & (users <= MOST_LINES))
+        & ((asked == users) & (shares == users) & (numbers == users))
+}
+
 impl Batch<'_> {
-    // Question 2 of the lengths of the four lists: the lists for shares and numbers have so many places.
+    // The same of a batch: the lists for shares and numbers have so many places.
     pub fn lengths_fit(self, shares: usize, numbers: usize) -> bool
         ensures { result ≡ lengths_fit (length self.entry.users.now) (length self.entry.asked.now) shares numbers }
     {
-        let lines = self.users.len();
-        ((1 <= lines) & (lines <= MOST_LINES))
-            & ((self.asked.len() == lines) & (shares == lines) & (numbers == lines))
+        lengths_fit(self.users.len(), self.asked.len(), shares, numbers)
     }
 }

@@ -10,5 +10,5 @@ mod lines;
 mod shares;
 mod sharing;
 
-pub use batches::{Batch, MOST_LINES};
+pub use batches::{Batch, MOST_LINES, lengths_fit};
 pub use shares::share_lines;
