@@ -1,4 +1,6 @@
+use mathlib.Core.Path.{ap, ◌∙◌}
 use Rattle.parts.specs.Registers.{state}
+use Rattle.parts.specs.Answers.{number_of_answer, amount_of_answer}
 use Rattle.requests.proofs.AnswerLaws.{decided, refused}
 use Rattle.requests.proofs.requesting.request_capacity.Goals as goal
 
@@ -12,4 +14,8 @@ returns-in-Ok c =
 pub returns-in-Err : goal.returns-in-Err
 returns-in-Err c =
     let w = refused (state c.args.r c.args.free.now c.args.ledger.now) c.args.q c.in-Err.why c.in-Err.ensures in
-    rw (c.refused.ensures.answer, c.refused.ensures.register) (record { number = w.0; amount = w.1.0; state = w.1.1 })
+    record {
+      number = ap number_of_answer c.refused.ensures.answer ∙ w.0;
+      amount = ap amount_of_answer c.refused.ensures.answer ∙ w.1.0;
+      state = rw c.refused.ensures.register w.1.1;
+    }
