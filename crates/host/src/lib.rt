@@ -1,5 +1,6 @@
 // The functions that C and Rust programs call, one file for each call. Each is a thin call of a proved function and has that
-// function's contract. The crate `host_c` exports them; host/include/ylgrandi.h says the same in C.
+// function's contract. The crate `host_c` exports them, since a static library can stand below nothing, and laws of what a host holds
+// name these; host/include/ylgrandi.h says the same in C.
 //
 // The register is passed by value and comes back in the answer; the free amounts, the ledger and the lists of a batch are slices,
 // each a pointer and a length. No enum crosses: kinds and numbers do. The date is the one struct that is lent.

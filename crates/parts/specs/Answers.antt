@@ -27,7 +27,7 @@ abbrev pub number_of_answer : {A : Type 0} → Result A Refusal → ℕ
 number_of_answer (Ok a) = 0
 number_of_answer (Err why) = number_of_refusal why
 
--- the amount granted, ceded or reported: where the answer is no, "grant or reported figure 0"
+-- the amount granted, ceded or reported, and of a run how many bytes were written: where the answer is no, "grant or reported figure 0"
 abbrev pub amount_of_answer : Result ℕ Refusal → ℕ
 amount_of_answer (Ok a) = a
 amount_of_answer (Err why) = 0
