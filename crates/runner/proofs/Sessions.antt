@@ -1,10 +1,15 @@
 -- A run over lists and a buffer of the lengths that it asks is accepted; what is written of the buffer is what is printed for the input,
 -- and the bytes behind 2,000 records make no difference to that.
 -- Assumes nothing.
-use Rattle.std.proofs.Common.{◌≡◌, ◌+◌, ◌*◌, not, true, ℕ, zero, suc, List, [], ◌∷◌, take, drop, length, refl, ap, ◌∙◌, arith}
+use Rattle.std.proofs.Common.{◌≡◌, ◌+◌, ◌*◌, not, true, ℕ, zero, suc, List, [], ◌∷◌, take, drop, length, refl, ap, arith}
 use Rattle.std.proofs.Math.Seq.{take-append_seam}
 use Rattle.std.proofs.lemmas.List.{drop-take, take-take}
 use borrow.Author.Tests.{le-ltb}
+use Rattle.std.specs.Result.{is_ok}
+use Rattle.std.specs.Prelude.{Result, Ok, Err}
+use Rattle.parts.specs.declared.answers.Refusal.{Refusal}
+use Rattle.parts.specs.Answers.{number_of_answer}
+use Rattle.parts.proofs.AnswerLaws.{refusal_number}
 use Rattle.runs.specs.Runs.{records_of, records_in, has_room, printed, run_number, run_bytes, run_length}
 use Rattle.runs.proofs.RecordLaws.{record_count}
 
@@ -36,9 +41,12 @@ module _ (input f ls out : List ℕ) where
   unfolding run_length run_bytes
   text e = rw e (take-append_seam (printed input) (drop (length (printed input)) out))
 
--- the part of the buffer that is written, after a run over the first bytes of an input
-pub lines_sent : (input f ls out : List ℕ) {out' : List ℕ} {written : ℕ} → length out ≡ 66000 → length f ≡ 11712 → length ls ≡ 10240
-    → out' ≡ run_bytes input f ls out → written ≡ run_length input f ls out → (bytes : List ℕ) → input ≡ take 48000 bytes
-    → take written out' ≡ printed bytes
-lines_sent input f ls out room table lines eb ew bytes e =
-    rw (eb, ew) (text input f ls out (accepted input f ls out room table lines) ∙ ap printed e ∙ printed_first bytes)
+-- what is answered 0 is no refusal
+pub is_accepted : {A : Type 0} (a : Result A Refusal) → number_of_answer a ≡ 0 → is_ok a ≡ true
+is_accepted (Ok n) e = refl
+is_accepted (Err why) e = absurd (omega (arith, refusal_number why, e))
+
+-- the part of the buffer that is written
+pub lines_told : (input f ls out : List ℕ) {out' : List ℕ} {written : ℕ} → length out ≡ 66000 → length f ≡ 11712 → length ls ≡ 10240
+    → out' ≡ run_bytes input f ls out → written ≡ run_length input f ls out → take written out' ≡ printed input
+lines_told input f ls out room table lines eb ew = rw (eb, ew) (text input f ls out (accepted input f ls out room table lines))

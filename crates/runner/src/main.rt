@@ -33,7 +33,7 @@ fn read_some<R: Read>(input: &mut R, space: &mut [u8], place: usize) -> io::Resu
 }
 
 // Fills the space from its start, read after read, however few bytes each of them brings: with the first bytes of the input, and no
-// byte behind them is taken.
+// byte behind them is taken. std's `read_exact` refuses an input that ends before the space is full.
 fn read_input<R: Read>(input: &mut R, space: &mut [u8]) -> io::Result<usize>
     ensures within { IfOk result (λ count. (count ≤ length space.new) × (count ≡ length (take count space.new))) }
     ensures first { IfOk result (λ count. IfSome (R.remaining input.old) (λ bytes.
@@ -72,7 +72,20 @@ fn say_failed<R: Eprint + Alloc>(rt: &R, stream: &str, failure: io::Error) -> io
     }
 }
 
+// Makes the calls of the records of an input, writes their lines into a buffer, and answers how many bytes these are.
+fn lines_of(input: &[u8], lines: &mut [u8; runs::BUFFER]) -> usize
+    ensures text { take result lines.new ≡ printed input.now }
+    ensures within { (result ≤ length lines.new) × (result ≡ length (take result lines.new)) }
+{
+    let mut free = [0u32; parts::TABLE];
+    let mut ledger = [0u32; parts::LEDGER];
+    // The lists and the buffer are as long as a run asks, so that it is never refused.
+    let ran = runs::run(input, &mut free, &mut ledger, lines);
+    ran.answer.unwrap()
+}
+
 // Takes the records of an input, makes their calls and writes their lines when all are made. Where a read fails, nothing is written.
+#[tactic(auto, using(crate::proofs::Sessions::printed_first))]
 fn answer_records<R: Read, W: Write>(input: &mut R, output: &mut W) -> Result<(), Failure>
     ensures lines { OnOk result (IfSome (R.remaining input.old) (λ bytes.
         Appends (W.contents output.old) (W.contents output.new) (printed bytes))) }
@@ -81,20 +94,12 @@ fn answer_records<R: Read, W: Write>(input: &mut R, output: &mut W) -> Result<()
     ensures unread { IfErr result (λ failure. IfReading failure (Keeps (W.contents output.old) (W.contents output.new))) }
 {
     let mut space = [0u8; runs::INPUT];
-    let count = match read_input(input, &mut space) {
-        Ok(count) => count,
-        Err(e) => return Err(Failure::Reading(e)),
-    };
-    let mut free = [0u32; parts::TABLE];
-    let mut ledger = [0u32; parts::LEDGER];
+    let count = read_input(input, &mut space).map_err(Failure::Reading)?;
     let mut lines = [0u8; runs::BUFFER];
-    // The lists and the buffer are as long as a run asks, so that it is never refused.
-    let ran = runs::run(&space[..count], &mut free, &mut ledger, &mut lines);
-    let written = ran.written;
-    match output.write_all(&lines[..written]) {
-        Ok(()) => Ok(()),
-        Err(e) => Err(Failure::Writing(e)),
-    }
+    let written = lines_of(&space[..count], &mut lines);
+    output
+        .write_all(&lines[..written])
+        .map_err(Failure::Writing)
 }
 
 fn main(rt: HostRuntime) {
