@@ -12,7 +12,7 @@ use placing::Guarantee;
 use requests::Request;
 use shares::Batch;
 
-// A changing call. A batch has its point here, and its lists are lent beside it.
+// A changing call. A batch has its point here, and its lists are lent beside it. Each case is one call, told apart in `apply` alone.
 #[derive(Clone, Copy)]
 pub enum Change {
     OpenPoint(Opening),

@@ -109,6 +109,7 @@ fn turn_in(s: &[u8; RECORD]) -> Change
     Change::TurnYear(year_of(s))
 }
 
+// Letter and kind are bytes of the record, told apart by `match` where they are read.
 #[tactic(auto, using(crate::proofs::CallLaws::letters))]
 fn call_in(s: &[u8; RECORD]) -> Option<Change>
     ensures { result ≡ call_in s.now }

@@ -17,12 +17,12 @@ const FIRST_YEAR: u16 = 2000;
 const MOST_RECORDS: usize = 2000;
 
 // The bytes of that many records: no more of an input is looked at.
-pub const INPUT: usize = 48_000;
+pub const INPUT: usize = MOST_RECORDS * records::RECORD;
 
 // A buffer of this length has room for the lines of any input.
-pub const BUFFER: usize = 66_000;
+pub const BUFFER: usize = MOST_RECORDS * printing::LINE;
 
-// The register and the next place in the buffer.
+// The register and the next place in the buffer. The buffer is lent whole and the place goes beside it, as `put_line` takes them.
 #[derive(Drop)]
 struct Progress {
     register: Register,
@@ -55,11 +55,7 @@ fn make_call(r: Register, free: &mut [u32], ledger: &mut [u32], d: Option<Change
 {
     match d {
         Some(change) => history::apply(r, free, ledger, change, &[], &[], &mut [], &mut []),
-        None => Applied {
-            register: r,
-            number: u8::from(Refusal::OutOfLimits),
-            amount: 0,
-        },
+        None => Applied::from(Answered::<()>::refused(r, Refusal::OutOfLimits)),
     }
 }
 
@@ -97,7 +93,7 @@ fn take_record(
 fn take_records(
     input: &[u8],
     count: usize,
-    r: Register,
+    mut r: Register,
     free: &mut [u32],
     ledger: &mut [u32],
     out: &mut [u8],
@@ -111,19 +107,18 @@ fn take_records(
         (decoded_in input.now)) ++ drop result.place out.old }
     ensures bound { result.place ≤ length out.old }
 {
-    let mut register = r;
     let mut place: usize = 0;
     for k in 0..count {
-        let after = take_record(input, k, register, free, ledger, out, place);
-        register = after.register;
+        let after = take_record(input, k, r, free, ledger, out, place);
+        r = after.register;
         place = after.place;
     }
-    Progress { register, place }
+    Progress { register: r, place }
 }
 
 // Starts a fresh register of 2000 in the two lists, makes the calls of the input's records, at most 2,000, in order, and writes a line
 // for each into the buffer. It answers how many bytes of the buffer were written. A table or a ledger of another length, or a buffer
-// with fewer than 33 bytes for each record, is refused with 2 before anything is done. `within` follows from the clauses before it, and
+// with fewer than 33 bytes for each record, is refused with 2 before anything is done. A refused run leaves the register of a refused start, of year 0. `within` follows from the clauses before it, and
 // is what a caller needs who lends on the part that was written.
 pub fn run(input: &[u8], free: &mut [u32], ledger: &mut [u32], out: &mut [u8]) -> Answered<usize>
     ensures number { number_of_answer result.answer ≡ run_number input.now free.old ledger.old out.old }
