@@ -85,6 +85,7 @@ fn lines_of(input: &[u8], lines: &mut [u8; runs::BUFFER]) -> usize
 }
 
 // Takes the records of an input, makes their calls and writes their lines when all are made. Where a read fails, nothing is written.
+// Each list has a fixed length, with no heap, and beside it how much of it is used, as `read` answers it.
 #[tactic(auto, using(crate::proofs::Sessions::printed_first))]
 fn answer_records<R: Read, W: Write>(input: &mut R, output: &mut W) -> Result<(), Failure>
     ensures lines { OnOk result (IfSome (R.remaining input.old) (λ bytes.
@@ -104,9 +105,10 @@ fn answer_records<R: Read, W: Write>(input: &mut R, output: &mut W) -> Result<()
 
 fn main(rt: HostRuntime) {
     if let Err(failure) = answer_records(&mut rt.stdin(), &mut rt.stdout()) {
-        let _ = match failure {
-            Failure::Reading(e) => say_failed(&rt, "standard input", e),
-            Failure::Writing(e) => say_failed(&rt, "standard output", e),
+        let (stream, e) = match failure {
+            Failure::Reading(e) => ("standard input", e),
+            Failure::Writing(e) => ("standard output", e),
         };
+        let _ = say_failed(&rt, stream, e);
     }
 }
