@@ -10,10 +10,7 @@ use parts::{Point, ROW, TABLE};
 pub fn days_of_year(year: u16) -> usize
     ensures { result ≡ days_of_year year }
 {
-    match calendar::thermal_year(year) {
-        Some(span) => span.days(),
-        None => 0,
-    }
+    calendar::thermal_year(year).map_or(0, |span| span.days())
 }
 
 // Where the row of a point begins, with the entry of 1 October.

@@ -89,10 +89,7 @@ pub fn thermal_year(year: u16) -> Option<Span>
 pub fn in_thermal_year(year: u16, day: u16) -> bool
     ensures { result ≡ in_thermal_year year day }
 {
-    match thermal_year(year) {
-        Some(span) => span.contains(day),
-        None => false,
-    }
+    thermal_year(year).is_some_and(|span| span.contains(day))
 }
 
 // The first and the last day of a month of the calendar.

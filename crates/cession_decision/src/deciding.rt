@@ -21,6 +21,18 @@ pub struct Cession {
     pub amount: u64,
 }
 
+impl Cession {
+    // Question 2.
+    fn is_within_limits(self) -> bool
+        ensures { result ≡ cession_fields self }
+    {
+        register::names_point(self.point)
+            & (register::names_user(self.giver) & register::names_user(self.receiver))
+            & (self.giver != self.receiver)
+            & register::is_amount(self.amount)
+    }
+}
+
 // A cession arrives by this working day of a month.
 const DEADLINE: u8 = 16;
 
@@ -32,16 +44,6 @@ pub const LINES_WRITTEN: usize = 2;
 pub struct Handover {
     pub first: u16,
     pub charge: u64,
-}
-
-// Question 2.
-fn fields_within_limits(c: Cession) -> bool
-    ensures { result ≡ cession_fields c }
-{
-    register::names_point(c.point)
-        & (register::names_user(c.giver) & register::names_user(c.receiver))
-        & (c.giver != c.receiver)
-        & register::is_amount(c.amount)
 }
 
 // Question 5. This step and those that follow each ask that question 2 was answered yes. A type of its own for such a cession would
@@ -153,7 +155,7 @@ pub fn decide(v: View, c: Cession) -> Result<Handover, Refusal>
     if !register::in_order(v) {
         return Err(Refusal::NotInOrder);
     }
-    if !fields_within_limits(c) {
+    if !c.is_within_limits() {
         return Err(Refusal::OutOfLimits);
     }
     let p = v.register.points[c.point as usize];

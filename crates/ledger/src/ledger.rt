@@ -23,19 +23,19 @@ fn holds_line(ledger: &[u32], i: usize) -> bool
     i < ledger.len() / LINE
 }
 
-// Line i of a list that has it. The fields are read by index: of a part with five numbers they would be read by index too.
+// Line i of a list that has it.
 #[tactic(auto, unfolding(crate::specs::Ledger::fields_at))]
 fn fields_at(ledger: &[u32], i: usize) -> Line
     requires { Holds ledger.now i }
     ensures { result ≡ fields_at ledger.now i }
 {
-    let at = LINE * i;
+    let [user, point, kind, first, amount] = *ledger[LINE * i..].first_chunk::<LINE>().unwrap();
     Line {
-        user: ledger[at],
-        point: ledger[at + 1],
-        kind: ledger[at + 2],
-        first: ledger[at + 3],
-        amount: ledger[at + 4].cast_signed(),
+        user,
+        point,
+        kind,
+        first,
+        amount: amount.cast_signed(),
     }
 }
 
@@ -50,6 +50,7 @@ pub fn line_at(ledger: &[u32], i: usize) -> Line
     Line::default()
 }
 
+// The fields are written by index: of what is written through a part of the list, the proof did not close.
 #[tactic(auto, unfolding(crate::specs::Ledger::with_fields))]
 fn write_fields(ledger: &mut [u32], i: usize, l: Line)
     requires { Holds ledger.old i }

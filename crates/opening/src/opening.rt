@@ -24,10 +24,7 @@ impl Opening {
     fn is_within_limits(self) -> bool
         ensures { result ≡ open_fields self.point self.kind self.total self.rate }
     {
-        register::names_point(self.point)
-            & (((1 <= self.kind) & (self.kind <= 2))
-                & register::is_amount(self.total)
-                & (self.rate <= register::MOST_RATE))
+        register::names_point(self.point) & register::can_open(self.kind, self.total, self.rate)
     }
 }
 

@@ -173,8 +173,7 @@ pub fn in_order(v: View) -> bool
     if !(points_in_order(&r.points) & accounts_in_order(&r.accounts)) {
         return false;
     }
-    let days = (span.last + 1 - span.first) as usize;
-    if !table_in_order(&r.points, days, v.free) {
+    if !table_in_order(&r.points, span.days(), v.free) {
         return false;
     }
     lines_in_order(r, v.ledger, span)

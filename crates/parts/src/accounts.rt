@@ -8,7 +8,7 @@ use crate::limits::MOST_GUARANTEE;
 // A user is on file where `on_file` is 1: a number, since a host in C passes the register by value. Guarantee and commitment are in
 // millionths of a euro.
 #[repr(C)]
-#[derive(Clone, Copy, Default)]
+#[derive(Clone, Copy, Default, PartialEq, Eq)]
 pub struct Account {
     pub on_file: u8,
     pub guarantee: u64,
@@ -22,13 +22,12 @@ impl Account {
         self.on_file == 1
     }
 
-    // Not on file with nothing set, or on file within the limits. All tests are made, with no branch, which `==` with an absent one
-    // would have.
+    // Not on file with nothing set, or on file within the limits.
     pub fn is_in_order(self) -> bool
         ensures { result ≡ account_ok self }
     {
-        (self.on_file == 0) & (self.guarantee == 0) & (self.commitment == 0)
-            | (self.on_file == 1)
+        (self == Account::default())
+            | self.is_on_file()
                 & (self.guarantee <= MOST_GUARANTEE)
                 & (self.commitment <= self.guarantee)
     }

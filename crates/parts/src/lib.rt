@@ -19,5 +19,5 @@ pub use limits::{
     LEAST_SIGNED, LEDGER, LINE, LINES, MOST_AMOUNT, MOST_GUARANTEE, MOST_RATE, MOST_SIGNED,
     MOST_WORD, POINTS, ROW, TABLE, USERS, is_amount, names_point, names_user,
 };
-pub use points::Point;
+pub use points::{Point, can_open};
 pub use registers::{Register, View, blank};

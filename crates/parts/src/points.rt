@@ -1,6 +1,8 @@
 // Delivery points.
 ghost use Rattle.std.specs.Prelude.{◌≡◌};
-ghost use Rattle.parts.specs.Points.{is_open, is_direct, point_ok};
+ghost use Rattle.parts.specs.Points.{is_open, is_direct, open_tests, point_ok};
+ghost use Rattle.parts.specs.Tests.{every};
+ghost use Rattle.parts.specs.Registers.{point};
 
 use crate::limits::{MOST_RATE, is_amount};
 
@@ -8,11 +10,18 @@ use crate::limits::{MOST_RATE, is_amount};
 // finds another one. The total is in Sm3 a day; the rate is for each Sm3/day and gas-day, in millionths
 // of a euro.
 #[repr(C)]
-#[derive(Clone, Copy, Default)]
+#[derive(Clone, Copy, Default, PartialEq, Eq)]
 pub struct Point {
     pub kind: u8,
     pub total: u32,
     pub rate: u32,
+}
+
+// Whether a point can be open with a kind, a total and a rate.
+pub fn can_open(kind: u8, total: u64, rate: u32) -> bool
+    ensures { result ≡ every (open_tests (point kind total rate)) }
+{
+    ((1 <= kind) & (kind <= 2)) & is_amount(total) & (rate <= MOST_RATE)
 }
 
 impl Point {
@@ -29,13 +38,10 @@ impl Point {
         self.kind == 1
     }
 
-    // Closed with nothing set, or open within the limits. All tests are made, with no branch, which `==` with a closed point would have.
+    // Closed with nothing set, or open within the limits.
     pub fn is_in_order(self) -> bool
         ensures { result ≡ point_ok self }
     {
-        (self.kind == 0) & (self.total == 0) & (self.rate == 0)
-            | ((1 <= self.kind) & (self.kind <= 2))
-                & is_amount(self.total as u64)
-                & (self.rate <= MOST_RATE)
+        (self == Point::default()) | can_open(self.kind, self.total as u64, self.rate)
     }
 }

@@ -7,6 +7,4 @@
 
 mod products;
 
-pub use products::{
-    Product, Request, is_in_time, is_month_within_limits, is_offered, line_kind, span_of,
-};
+pub use products::{Product, Request, is_in_time, is_offered, span_of};

@@ -27,24 +27,26 @@ pub struct Request {
 // Annual and monthly requests arrive by this working day of a month.
 const DEADLINE: u8 = 11;
 
-// The kind of the ledger line. It is no conversion of the product by `From`, since the number leaves out which month or gas-day it is.
-pub fn line_kind(product: Product) -> u8
-    ensures { result ≡ kind_of product }
-{
-    match product {
-        Product::Annual => 1,
-        Product::Month(_) => 2,
-        Product::Day(_) => 3,
+impl Product {
+    // The kind of the ledger line. It is no conversion of the product by `From`, since the number leaves out which month or gas-day it is.
+    pub fn kind(self) -> u8
+        ensures { result ≡ kind_of self }
+    {
+        match self {
+            Product::Annual => 1,
+            Product::Month(_) => 2,
+            Product::Day(_) => 3,
+        }
     }
-}
 
-// Question 2 of the product.
-pub fn is_month_within_limits(product: Product) -> bool
-    ensures { result ≡ month_ok product }
-{
-    match product {
-        Product::Month(month) => calendar::names_month(month),
-        Product::Annual | Product::Day(_) => true,
+    // Question 2 of the product.
+    pub fn is_month_within_limits(self) -> bool
+        ensures { result ≡ month_ok self }
+    {
+        match self {
+            Product::Month(month) => calendar::names_month(month),
+            Product::Annual | Product::Day(_) => true,
+        }
     }
 }
 

@@ -17,7 +17,7 @@ fn fields_within_limits(q: Request) -> bool
     register::names_point(q.point)
         & register::names_user(q.user)
         & register::is_amount(q.amount)
-        & products::is_month_within_limits(q.product)
+        & q.product.is_month_within_limits()
 }
 
 // The grant of an amount on each day of a span. A literal: its fields come from a request and a span, and no other grant's do.
@@ -27,7 +27,7 @@ fn grant_from(q: Request, days: Span, amount: u32) -> Grant
     Grant {
         user: q.user,
         point: q.point,
-        kind: products::line_kind(q.product),
+        kind: q.product.kind(),
         first: days.first,
         last: days.last,
         amount,

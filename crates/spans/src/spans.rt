@@ -13,10 +13,8 @@ const DAYS_OF_SEPTEMBER: u16 = 30;
 pub fn is_arrival(year: u16, arrival: u16) -> bool
     ensures { result ≡ arrives year arrival }
 {
-    match calendar::thermal_year(year) {
-        Some(days) => (days.first - DAYS_OF_SEPTEMBER <= arrival) & (arrival <= days.last),
-        None => false,
-    }
+    calendar::thermal_year(year).is_some_and(|days| (days.first - DAYS_OF_SEPTEMBER <= arrival)
+        & (arrival <= days.last))
 }
 
 // From the first of the month after arrival to the year's end, where that is a span of the year.
@@ -38,10 +36,9 @@ pub fn annual_span(year: u16, arrival: u16) -> Option<Span>
 pub fn is_span(year: u16, first: u16, last: u16) -> bool
     ensures { result ≡ span_in_year year first last }
 {
-    match calendar::thermal_year(year) {
-        Some(days) => (days.first <= first) & (first <= last) & (last <= days.last),
-        None => false,
-    }
+    calendar::thermal_year(year).is_some_and(|days| (days.first <= first)
+        & (first <= last)
+        & (last <= days.last))
 }
 
 // Whether the calendar says that an arrival is in time.
