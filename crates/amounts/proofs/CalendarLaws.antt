@@ -6,7 +6,8 @@ use Prim.Native.Nat.{ℕ, ◌+◌, ◌≤◌}
 use native.Mathlib.Omega.{arith}
 use Rattle.days.specs.Days.{leap, between}
 use Rattle.calendar.specs.ThermalYears.{is_thermal_year, in_thermal_year, thermal_first, thermal_last, YearSpan}
-use Rattle.days.proofs.Ranges.{and_left, and_right, both, Within, within, is_between, cond_le}
+use Rattle.days.proofs.Ranges.{and_left, and_right, Within, within, is_between, cond_le}
+use Rattle.std.proofs.lemmas.Bool.{and_from as both}
 use Rattle.calendar.proofs.ThermalYearLaws.{thermal_next, thermal_days, thermal_order, thermal_last_lem}
 use Rattle.amounts.specs.Amounts.{year_days}
 

@@ -28,9 +28,6 @@ module _ {A : Type 0} where
       ∙ ap (set (replaced l at n g) (at + n)) h
       ∙ replaced_more l at n g
 
-  pub replaced_end : (t l : List A) (at k n : ℕ) (g : ℕ → A) → k ≤ n → n ≤ k → t ≡ replaced l at k g → t ≡ replaced l at n g
-  replaced_end t l at k n g a b e = e ∙ ap (λ (m : ℕ). replaced l at m g) (omega arith)
-
   pub replaced_length : (l : List A) (at n : ℕ) (g : ℕ → A) → length (replaced l at n g) ≡ length l
   unfolding replaced
   replaced_length l at zero g = refl
@@ -111,10 +108,6 @@ replaced_within l at n g = go (dec_lt (length l - at) n)
     go (no h) = let m : min n (length l - at) ≡ n = omega arith in ap (λ (k : ℕ). replaced l at k g) m
 
 -- ---- the smallest
-pub least_more : (l : List ℕ) (at m n : ℕ) → least_of l at (n + 1) m ≡ min (least_of l at n m) (get_or l (at + n) 0)
-unfolding least_of
-least_more l at m n = rw (add-one n)
-
 -- it is at most the number, and at most each of the run
 pub least_le : (l : List ℕ) (at m n : ℕ) → least_of l at n m ≤ m
 unfolding least_of

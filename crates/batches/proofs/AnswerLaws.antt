@@ -7,7 +7,8 @@ use lib.Dec.{eqb}
 use lib.ListN.{length}
 use borrow.Author.Tests.{ltb-true, leb-true, eq-eqb}
 use Rattle.calendar.specs.ThermalYears.{is_thermal_year}
-use Rattle.days.proofs.Ranges.{both, Within}
+use Rattle.days.proofs.Ranges.{Within}
+use Rattle.std.proofs.lemmas.Bool.{and_from as both}
 use Rattle.parts.specs.Limits.{point_count, line_count, table_length}
 use Rattle.parts.specs.Registers.{State, point_at}
 use Rattle.parts.specs.Answers.{Passes}

@@ -12,7 +12,7 @@ use Rattle.calendar.specs.ThermalYears.{is_thermal_year, thermal_first, thermal_
 use Rattle.calendar.specs.declared.thermal_years.Span.{Span}
 use Rattle.calendar.specs.Answers.{year_answer}
 use Rattle.calendar.proofs.SpanLaws.{year_span}
-use Rattle.days.proofs.Ranges.{both}
+use Rattle.std.proofs.lemmas.Bool.{and_from as both}
 use Rattle.parts.specs.declared.points.Point.{Point}
 use Rattle.parts.specs.declared.accounts.Account.{Account}
 use Rattle.parts.specs.declared.registers.Register.{Register}

@@ -24,15 +24,6 @@ own_month a h =
 pub month_from : (a : ℕ) → month_start (date_of a).year (date_of a).month ≤ a
 month_from a = omega (arith, day_date a)
 
--- the first of the next month: in the same year, but for December
-pub next_same_year : (a : ℕ) → (date_of a).month < 12 → next_first a ≡ month_start (date_of a).year ((date_of a).month + 1)
-unfolding next_first
-next_same_year a h = rw (lt-ltb (date_of a).month 12 h)
-
-pub next_january : (a : ℕ) → 12 ≤ (date_of a).month → next_first a ≡ month_start ((date_of a).year + 1) 1
-unfolding next_first
-next_january a h = rw (le-ltb (date_of a).month 12 h)
-
 -- by the month after that of the day, which no day of 16 bits has so late that its year would be too large
 pub next_named : (a y m : ℕ) → a ≤ 65535 → y ≡ min (year_after (date_of a).year (date_of a).month) 65535 → m ≡ month_after (date_of a).month → month_start y m ≡ next_first a
 unfolding next_first year_of

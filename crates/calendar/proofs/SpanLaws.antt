@@ -55,9 +55,6 @@ no_month y k h = unchosen (is_thermal_month y k) (span (thermal_month_first y k)
 pub day_tested : (y d : ℕ) (s : Span) → year_answer y ≡ Some s → between s.first s.last d ≡ in_thermal_year y d
 day_tested y d s h = let w = year_span y s h in rw (w.year, w.begins, w.ends)
 
-pub day_untested : (y d : ℕ) → year_answer y ≡ None → false ≡ in_thermal_year y d
-day_untested y d h = rw (no_year y h)
-
 -- the ends of a month that is asked about lie in the calendar
 pub record MonthEnds (y m : ℕ) : Type 0 where
   pub first : month_start y m ≤ last_day

@@ -13,7 +13,7 @@ use borrow.Author.Tests.{le-leb}
 use mir.Syntax.{w32}
 use mir.Val.{SFits, to_z, of_z}
 use mir.Facts.{to_z-of_z, to_z_pos}
-use Rattle.days.proofs.Ranges.{both}
+use Rattle.std.proofs.lemmas.Bool.{and_from as both}
 use Rattle.parts.specs.declared.points.Point.{Point}
 use Rattle.parts.specs.declared.accounts.Account.{Account}
 use Rattle.ledger.specs.declared.ledger.Line.{Line}
@@ -25,7 +25,7 @@ use Rattle.parts.specs.Charges.{discharged}
 use Rattle.parts.specs.Accounts.{account_ok}
 use Rattle.order.specs.Order.{amount_ok, line_ok}
 use Rattle.register.specs.Sound.{Sound}
-use Rattle.parts.proofs.TestLaws.{or_left}
+use Rattle.std.proofs.lemmas.Bool.{or_left}
 use Rattle.ledger.proofs.LedgerLaws.{with_length, read_back, read_other}
 use Rattle.ledger.proofs.LineLaws.{annual_last_lem}
 use Rattle.order.proofs.OrderFacts.{InOrder, in_order_lem, guarantee_le, commitment_le, on_file_ok, line_ok_lem}

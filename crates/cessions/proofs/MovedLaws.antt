@@ -8,7 +8,8 @@ use native.Mathlib.Omega.{arith}
 use lib.Dec.{eqb}
 use lib.IntN.{ℤ, pos, ◌+ℤ◌, ◌-ℤ◌, +ℤ_idr}
 use borrow.Author.Tests.{eqb-true, eq-eqb}
-use Rattle.days.proofs.Ranges.{and_left, and_right, both, within, is_between}
+use Rattle.days.proofs.Ranges.{and_left, and_right, within, is_between}
+use Rattle.std.proofs.lemmas.Bool.{and_from as both}
 use Rattle.parts.specs.Registers.{State}
 use Rattle.ledger.specs.declared.ledger.Line.{Line}
 use Rattle.ledger.specs.Ledger.{line_last}

@@ -9,7 +9,8 @@ use lib.Dec.{leb}
 use lib.Seq.{set-get_or}
 use borrow.Author.Tests.{ltb-true, leb-true, le-leb}
 use Rattle.days.specs.Days.{last_day}
-use Rattle.days.proofs.Ranges.{and_left, and_right, both, within}
+use Rattle.days.proofs.Ranges.{and_left, and_right, within}
+use Rattle.std.proofs.lemmas.Bool.{and_from as both}
 use Rattle.calendar.specs.ThermalYears.{is_thermal_year}
 use Rattle.parts.specs.declared.points.Point.{Point}
 use Rattle.parts.specs.declared.accounts.Account.{Account}

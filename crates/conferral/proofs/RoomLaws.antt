@@ -8,7 +8,8 @@ use native.Mathlib.Omega.{arith}
 use borrow.Author.Tests.{ltb-true, leb-true, lt-ltb, le-leb}
 use Rattle.days.specs.Days.{last_day}
 use Rattle.calendar.specs.ThermalYears.{is_thermal_year}
-use Rattle.days.proofs.Ranges.{and_left, and_right, both, Within, within, is_between}
+use Rattle.days.proofs.Ranges.{and_left, and_right, Within, within, is_between}
+use Rattle.std.proofs.lemmas.Bool.{and_from as both}
 use Rattle.parts.specs.declared.accounts.Account.{Account}
 use Rattle.parts.specs.declared.registers.Register.{Register}
 use Rattle.parts.specs.Limits.{point_count, user_count, line_count, row_length, most_amount}

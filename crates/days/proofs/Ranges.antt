@@ -1,5 +1,6 @@
 -- What the tests of the definitions say: a number within limits, a year, a month, a thermal year and a date.
 -- Assumes nothing.
+use Rattle.std.proofs.lemmas.Bool.{and_from as both}
 use Prim.Native.Nat.{ℕ, ◌≤◌}
 use mathlib.Core.Bool.{Bool, true, false, cond, ◌&&◌, and-eq-true_iff}
 use mathlib.Core.Path.{◌≡◌}
@@ -13,9 +14,6 @@ and_left a b h = ((and-eq-true_iff a b).0 h).0
 
 pub and_right : (a b : Bool) → (a && b) ≡ true → b ≡ true
 and_right a b h = ((and-eq-true_iff a b).0 h).1
-
-pub both : (a b : Bool) → a ≡ true → b ≡ true → (a && b) ≡ true
-both a b p q = (and-eq-true_iff a b).1 (p, q)
 
 -- a choice between numbers keeps a bound that both have
 pub cond_le : (b : Bool) (x y h : ℕ) → x ≤ h → y ≤ h → cond b x y ≤ h

@@ -8,7 +8,8 @@ use lib.Dec.{eqb}
 use lib.Signed.{mag}
 use borrow.Author.Tests.{eqb-true, eq-eqb}
 use Rattle.days.specs.Days.{between}
-use Rattle.days.proofs.Ranges.{and_left, and_right, both, Within, within, is_between}
+use Rattle.days.proofs.Ranges.{and_left, and_right, Within, within, is_between}
+use Rattle.std.proofs.lemmas.Bool.{and_from as both}
 use Rattle.parts.specs.Registers.{State}
 use Rattle.opening.specs.OpenPoint.{opened}
 use Rattle.placing.specs.PlaceGuarantee.{placed}

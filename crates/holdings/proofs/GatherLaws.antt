@@ -14,7 +14,8 @@ use lib.Seq.{get_or-set_same, get_or-set_other}
 use Rattle.days.specs.Days.{last_day, between}
 use Rattle.calendar.specs.ThermalYears.{is_thermal_year, in_thermal_year, thermal_last}
 use Rattle.calendar.specs.Deadlines.{next_first}
-use Rattle.days.proofs.Ranges.{and_left, and_right, both, within, is_between}
+use Rattle.days.proofs.Ranges.{and_left, and_right, within, is_between}
+use Rattle.std.proofs.lemmas.Bool.{and_from as both}
 use Rattle.days.proofs.DateLaws.{month_least, month_in}
 use Rattle.calendar.proofs.ThermalYearLaws.{thermal_next}
 use Rattle.calendar.proofs.DeadlineLaws.{next_least}

@@ -10,7 +10,8 @@ use lib.Dec.{eqb}
 use lib.ListN.{get_or, length}
 use borrow.Author.Tests.{ltb-true, leb-true, eqb-true, lt-ltb, le-leb, eq-eqb}
 use Rattle.calendar.specs.ThermalYears.{is_thermal_year, thermal_first, thermal_last}
-use Rattle.days.proofs.Ranges.{and_left, and_right, both, Within, within, is_between}
+use Rattle.days.proofs.Ranges.{and_left, and_right, Within, within, is_between}
+use Rattle.std.proofs.lemmas.Bool.{and_from as both}
 use Rattle.parts.specs.declared.points.Point.{Point}
 use Rattle.parts.specs.declared.accounts.Account.{Account}
 use Rattle.ledger.specs.declared.ledger.Line.{Line}
@@ -22,7 +23,8 @@ use Rattle.amounts.specs.Amounts.{year_days, entry_at, capacity}
 use Rattle.parts.specs.Points.{closed_tests, open_tests, point_ok}
 use Rattle.parts.specs.Accounts.{absent_tests, on_file_tests, account_ok}
 use Rattle.order.specs.Order.{amount_fits, is_month_first, amount_ok, line_tests, names_ok, line_ok, point_test, points_ok, account_test, accounts_ok, row_test, table_ok, line_test, lines_ok, lengths_ok, order_tests, in_order}
-use Rattle.parts.proofs.TestLaws.{or_cases, or_left, or_right, every_at, all_at, all_of}
+use Rattle.parts.proofs.TestLaws.{every_at, all_at, all_of}
+use Rattle.std.proofs.lemmas.Bool.{or_cases, or_left, or_right}
 use Rattle.order.proofs.OrderLaws.{lengths_table, lengths_ledger, lengths_lines, names_user, names_point}
 use Rattle.amounts.proofs.AmountLaws.{capacity_le, capacity_out}
 

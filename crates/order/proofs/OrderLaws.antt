@@ -17,7 +17,8 @@ use Rattle.std.specs.Prelude.{Some, None}
 use Rattle.calendar.specs.declared.thermal_years.Span.{Span}
 use Rattle.calendar.specs.Answers.{year_answer}
 use Rattle.calendar.proofs.SpanLaws.{year_span, no_year}
-use Rattle.days.proofs.Ranges.{and_left, and_right, both, Within, within, is_between, ThermalMonth}
+use Rattle.days.proofs.Ranges.{and_left, and_right, Within, within, is_between, ThermalMonth}
+use Rattle.std.proofs.lemmas.Bool.{and_from as both}
 use Rattle.days.proofs.DateLaws.{month_least}
 use Rattle.calendar.proofs.ThermalYearLaws.{month_days, thermal_month_from, thermal_month_to}
 use Rattle.parts.specs.declared.points.Point.{Point}

@@ -55,9 +55,6 @@ module _ {A : Type 0} (v : Result A Refusal) (n : ℕ) where
   pub refused_number : (why : Refusal) → number_of_answer v ≡ n → v ≡ Err why → number_of_refusal why ≡ n
   refused_number why e h = sym (ap number_of_answer h) ∙ e
 
-  pub some_number : (why : Refusal) → number_of_answer v ≡ n → v ≡ Err why → n ≡ 0 → ⊥
-  some_number why e h z = let q : number_of_refusal why ≡ 0 = refused_number why e h ∙ z in omega (arith, q, refusal_number why)
-
 -- what a call leaves
 pub leaves_new : {A : Type 0} (n : ℕ) (new old : A) → n ≡ 0 → leaves n new old ≡ new
 leaves_new n new old h = ap (λ (m : ℕ). leaves m new old) h

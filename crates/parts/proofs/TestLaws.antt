@@ -1,5 +1,6 @@
 -- Laws of tests of many things at once.
 -- Assumes nothing.
+use Rattle.std.proofs.lemmas.Bool.{or_cases, or_left, or_right}
 use mathlib.Core.Path.{◌≡◌, refl, sym, ap, ◌∙◌, subst}
 use mathlib.Core.Bool.{Bool, true, false, ◌&&◌, ◌||◌, false≢true, true≢false}
 use mathlib.Core.Logic.{⊎_elim, ◌⊎◌, inl, inr}
@@ -9,24 +10,13 @@ use native.Mathlib.Nat.{eq-or-lt_of_le, le_of_suc-le-suc, not-suc-le-zero}
 use native.Mathlib.Numerals.{add-one}
 use native.Mathlib.Omega.{arith}
 use lib.ListN.{get_or}
-use Rattle.days.proofs.Ranges.{and_left, and_right, both}
+use Rattle.days.proofs.Ranges.{and_left, and_right}
+use Rattle.std.proofs.lemmas.Bool.{and_from as both}
 use Rattle.parts.specs.Tests.{all_below, some_below, every, every_from}
 
 pub and_false : (a b : Bool) → b ≡ false → (a && b) ≡ false
 and_false true b h = h
 and_false false b h = refl
-
-pub or_cases : (a b : Bool) → (a || b) ≡ true → (a ≡ true) ⊎ (b ≡ true)
-or_cases true b h = inl refl
-or_cases false b h = inr h
-
-pub or_left : (a b : Bool) → a ≡ true → (a || b) ≡ true
-or_left true b h = refl
-or_left false b h = absurd (false≢true h)
-
-pub or_right : (a b : Bool) → b ≡ true → (a || b) ≡ true
-or_right true b h = refl
-or_right false b h = h
 
 -- ---- a list of tests
 from_head : (a : Bool) (l : List Bool) → every_from a l ≡ true → a ≡ true
@@ -119,10 +109,6 @@ all_step t i ok b p q = rw (all_more t i, p, q)
 -- a turn of a loop that leaves early
 pub all_next : (t : ℕ → Bool) (i : ℕ) → all_below i t ≡ true → t i ≡ true → all_below (i + 1) t ≡ true
 all_next t i p q = rw (all_more t i, p, q)
-
--- the loop's end
-pub all_end : (t : ℕ → Bool) {i n : ℕ} → i ≤ n → n ≤ i → all_below i t ≡ all_below n t
-all_end t {i} {n} p q = ap (λ (k : ℕ). all_below k t) (omega arith)
 
 -- ---- a test of some number below n
 pub some_none : (t : ℕ → Bool) → some_below 0 t ≡ false

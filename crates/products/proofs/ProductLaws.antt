@@ -11,7 +11,8 @@ use Rattle.calendar.specs.declared.thermal_years.Span.{Span}
 use Rattle.days.specs.Days.{between}
 use Rattle.calendar.specs.ThermalYears.{span, thermal_first, thermal_last, is_thermal_year, in_thermal_year, is_thermal_month, calendar_year, calendar_month}
 use Rattle.calendar.specs.Answers.{month_answer}
-use Rattle.days.proofs.Ranges.{both, month_of_test}
+use Rattle.days.proofs.Ranges.{month_of_test}
+use Rattle.std.proofs.lemmas.Bool.{and_from as both}
 use Rattle.days.proofs.DateLaws.{month_least}
 use Rattle.calendar.proofs.ThermalYearLaws.{month_days, thermal_month_from, thermal_month_to}
 use Rattle.spans.specs.Spans.{arrives, span_fits, annual_answer}

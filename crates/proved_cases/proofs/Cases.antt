@@ -12,7 +12,8 @@ use lib.ListN.{get_or, replicate, get_or-replicate, length-replicate}
 use borrow.Author.Tests.{le-leb, lt-ltb, ltb-true, ne_eqb}
 use Rattle.days.specs.Days.{between}
 use Rattle.calendar.specs.ThermalYears.{in_thermal_year, thermal_first, thermal_last}
-use Rattle.days.proofs.Ranges.{and_left, and_right, both, Within, within, is_between}
+use Rattle.days.proofs.Ranges.{and_left, and_right, Within, within, is_between}
+use Rattle.std.proofs.lemmas.Bool.{and_from as both}
 use Rattle.calendar.proofs.Cases.{cases}
 use Rattle.parts.specs.declared.points.Point.{Point}
 use Rattle.parts.specs.declared.accounts.Account.{Account}

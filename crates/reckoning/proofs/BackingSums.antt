@@ -10,7 +10,8 @@ use native.Mathlib.Omega.{arith}
 use lib.Dec.{eqb}
 use borrow.Author.Tests.{eqb-true, eq-eqb}
 use Rattle.days.specs.Days.{between}
-use Rattle.days.proofs.Ranges.{and_left, and_right, both, within, is_between}
+use Rattle.days.proofs.Ranges.{and_left, and_right, within, is_between}
+use Rattle.std.proofs.lemmas.Bool.{and_from as both}
 use Rattle.parts.specs.Limits.{point_count}
 use Rattle.amounts.specs.Ranges.{sum_below}
 use Rattle.amounts.specs.Amounts.{span_days}

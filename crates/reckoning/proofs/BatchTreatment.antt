@@ -9,7 +9,8 @@ use native.Mathlib.Omega.{arith}
 use lib.Dec.{eqb}
 use lib.ListN.{get_or, length}
 use borrow.Author.Tests.{lt-ltb, eqb-true, eqb-false, ne_eqb}
-use Rattle.days.proofs.Ranges.{both, is_between}
+use Rattle.days.proofs.Ranges.{is_between}
+use Rattle.std.proofs.lemmas.Bool.{and_from as both}
 use Rattle.parts.specs.Limits.{user_count, most_amount}
 use Rattle.amounts.specs.Ranges.{sum_below}
 use Rattle.parts.specs.Registers.{State}

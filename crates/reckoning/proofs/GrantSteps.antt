@@ -9,7 +9,8 @@ use lib.Dec.{eqb}
 use borrow.Author.Tests.{eqb-true, eqb-false, eq-eqb, lt-ltb}
 use Rattle.days.specs.Days.{between}
 use Rattle.calendar.specs.ThermalYears.{in_thermal_year}
-use Rattle.days.proofs.Ranges.{and_left, and_right, both, within, is_between}
+use Rattle.days.proofs.Ranges.{and_left, and_right, within, is_between}
+use Rattle.std.proofs.lemmas.Bool.{and_from as both}
 use Rattle.parts.specs.declared.points.Point.{Point}
 use Rattle.parts.specs.declared.accounts.Account.{Account}
 use Rattle.parts.specs.Registers.{State, point_at, account_at}

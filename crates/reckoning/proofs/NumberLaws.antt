@@ -7,7 +7,7 @@ use Prim.Native.Nat.{ℕ}
 use lib.Dec.{eqb}
 use borrow.Author.Tests.{eq-eqb}
 use Rattle.parts.specs.Answers.{Question, ◌asks◌, number_of}
-use Rattle.parts.proofs.TestLaws.{or_left, or_right}
+use Rattle.std.proofs.lemmas.Bool.{or_left, or_right}
 use Rattle.shares.specs.Shares.{number_if}
 use Rattle.reckoning.specs.Reasons.{one_of}
 

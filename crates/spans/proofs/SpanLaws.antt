@@ -13,7 +13,8 @@ use Rattle.days.specs.Days.{last_day, between, month_length, day_number}
 use Rattle.calendar.specs.ThermalYears.{span, is_thermal_year, thermal_first, thermal_last, is_thermal_month}
 use Rattle.calendar.specs.Deadlines.{next_first, in_time_own, in_time_preceding}
 use Rattle.calendar.specs.Answers.{year_answer, day_in, next_first_answer, own_answer, preceding_answer}
-use Rattle.days.proofs.Ranges.{and_left, and_right, both, within}
+use Rattle.days.proofs.Ranges.{and_left, and_right, within}
+use Rattle.std.proofs.lemmas.Bool.{and_from as both}
 use Rattle.days.proofs.DateLaws.{month_next}
 use Rattle.calendar.proofs.SpanLaws.{chosen, unchosen, year_span, no_year}
 use Rattle.calendar.proofs.DeadlineLaws.{next_of, next_beyond}
