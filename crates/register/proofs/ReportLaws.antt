@@ -11,7 +11,10 @@ use Rattle.parts.specs.Limits.{point_count}
 use Rattle.parts.specs.Registers.{State, point_at}
 use Rattle.amounts.specs.Amounts.{entry_of, entry_in, free_on}
 use Rattle.register.specs.Reports.{report_questions, report_number, report_amount}
-use Rattle.parts.proofs.AnswerLaws.{passes, leaves_new, leaves_old}
+use Rattle.std.specs.Prelude.{Result, Ok}
+use Rattle.parts.specs.declared.answers.Refusal.{Refusal}
+use Rattle.parts.specs.Answers.{number_of_answer}
+use Rattle.parts.proofs.AnswerLaws.{passes, zero_number, leaves_new, leaves_old}
 use Rattle.amounts.proofs.AmountLaws.{entry_in_lem}
 use Rattle.amounts.proofs.CalendarLaws.{year_facts, day_within}
 use Rattle.order.proofs.OrderFacts.{InOrder, ordered}
@@ -55,6 +58,11 @@ module _ (s : State) (p d : ℕ) where
   pub report_none : (report_number s p d ≡ 0 → ⊥) → report_amount s p d ≡ 0
   unfolding report_amount
   report_none h = leaves_old (report_number s p d) (free_on s p d) 0 h
+
+-- the entry that the code reads after its questions lies in the table
+pub place_in : (s : State) (p d k : ℕ) (v : Result (Unit {0}) Refusal) (u : Unit {0}) → number_of_answer v ≡ report_number s p d → v ≡ Ok u
+    → k ≡ entry_in s.register.year p d → k < length s.free
+place_in s p d k v u e is at = omega (arith, at, place_read s p d (zero_number v _ u e is))
 
 -- what each exit of `report_free` gives
 pub ruleset report_exits = (amount_read, report_none)
