@@ -13,7 +13,10 @@ use Rattle.parts.specs.Tests.{every}
 use Rattle.parts.specs.Registers.{State, state, point_at, point, with_point}
 use Rattle.amounts.specs.Amounts.{year_days, freed_row}
 use Rattle.parts.specs.Points.{is_open, open_tests}
-use Rattle.parts.proofs.AnswerLaws.{passes, leaves_new, leaves_old}
+use Rattle.std.specs.Prelude.{Result, Ok}
+use Rattle.parts.specs.declared.answers.Refusal.{Refusal}
+use Rattle.parts.specs.Answers.{number_of_answer}
+use Rattle.parts.proofs.AnswerLaws.{passes, zero_number, leaves_new, leaves_old}
 use Rattle.order.proofs.OrderFacts.{InOrder, ordered, Open, open_facts}
 use Rattle.opening.specs.OpenPoint.{open_fields, open_questions, open_number, opened, open_after}
 
@@ -55,6 +58,11 @@ module _ (s : State) (p kind total rate : ℕ) where
   pub open_old : (open_number s p kind total rate ≡ 0 → ⊥) → s ≡ open_after s p kind total rate
   unfolding open_after
   open_old h = sym (leaves_old (open_number s p kind total rate) (opened s p kind total rate) s h)
+
+-- what an accepted opening tells, by the answer that the code gives
+pub accepted : (s : State) (p kind total rate : ℕ) (v : Result (Unit {0}) Refusal) (u : Unit {0}) → number_of_answer v ≡ open_number s p kind total rate
+    → v ≡ Ok u → OpenFacts s p kind total rate
+accepted s p kind total rate v u e is = facts s p kind total rate (zero_number v _ u e is)
 
 -- what each exit of `open_point` leaves
 pub ruleset open_exits = (open_new, open_old)

@@ -126,11 +126,10 @@ fn print_findings<W: Write>(out: &mut W, month: Month) -> io::Result<()>
     let in_time_for_next = how_many(month, |day, _| is_in_time_for_next(day, month));
     let followed = how_many(month, is_followed);
     let first = first_after(month);
-    let year = month.year;
-    let number = month.month;
     writeln!(
         out,
-        "days {year}-{number:02} {exist} {working} {in_time} {late} {in_time_for_next} {followed} {first}"
+        "days {}-{:02} {exist} {working} {in_time} {late} {in_time_for_next} {followed} {first}",
+        month.year, month.month
     )
 }
 
