@@ -83,6 +83,10 @@ module _ (s : State) (c : Cession) where
   unfolding cession_number
   decided_zero h d = d.0
 
+  -- what an accepted cession tells, by the code's decision
+  pub decided_facts : (h : Handover) → Decides (cession_questions s c) s.register c (Ok h) → CessionFacts
+  decided_facts h d = facts (decided_zero h d)
+
   -- the register and the ledger as the code leaves them
   pub ceded_as : (h : Handover) (minus plus : Line) (rv : Register) (m : List ℕ) → h ≡ handover_of s.register c
       → minus ≡ annual_line c.giver c.point h.first (neg_ℤ (pos c.amount))

@@ -7,26 +7,24 @@ use Rattle.parts.specs.Answers.{number_of_answer, amount_of_answer}
 use Rattle.order.proofs.OrderFacts.{guarantee_le}
 use Rattle.cession_decision.specs.CessionQuestions.{receiver_of}
 use Rattle.cessions.specs.CedeCapacity.{annual_line}
-use Rattle.cessions.proofs.AnswerLaws.{facts, decided_zero, ceded_as, decided, refused}
+use Rattle.cessions.proofs.AnswerLaws.{decided_facts, ceded_as, decided, refused}
 use Rattle.cessions.proofs.CededLaws.{minus_held}
 use native.Mathlib.Omega.{arith}
 use Rattle.cessions.proofs.ceding.cede_capacity.Goals as goal
 
 pub moved_register-requires-clause-guarantee : goal.moved_register-requires-clause-guarantee
 moved_register-requires-clause-guarantee c =
-    let s = state c.args.r c.args.free.now c.args.ledger.now in
-    let w = facts s c.args.c (decided_zero s c.args.c c.in-Ok.h c.in-Ok.ensures) in
+    let w = decided_facts (state c.args.r c.args.free.now c.args.ledger.now) c.args.c c.in-Ok.h c.in-Ok.ensures in
     guarantee_le (receiver_of c.args.r c.args.c) (w.order.accounts c.args.c.receiver w.fields.receiver)
 
 pub moved_register-requires-clause-lines : goal.moved_register-requires-clause-lines
 moved_register-requires-clause-lines c =
-    let s = state c.args.r c.args.free.now c.args.ledger.now in
-    (facts s c.args.c (decided_zero s c.args.c c.in-Ok.h c.in-Ok.ensures)).lines
+    (decided_facts (state c.args.r c.args.free.now c.args.ledger.now) c.args.c c.in-Ok.h c.in-Ok.ensures).lines
 
 pub returns-in-Ok : goal.returns-in-Ok
 returns-in-Ok c =
     let s = state c.args.r c.args.free.now c.args.ledger.now in
-    let w = (facts s c.args.c (decided_zero s c.args.c c.in-Ok.h c.in-Ok.ensures)).fields.amount in
+    let w = (decided_facts s c.args.c c.in-Ok.h c.in-Ok.ensures).fields.amount in
     let small : c.args.c.amount < 2147483648 = omega (arith, w.to) in
     let t = decided s c.args.c c.in-Ok.h _ c.in-Ok.ensures
     (ceded_as s c.args.c c.in-Ok.h c.annual_line-minus.result c.annual_line-plus.result c.moved_register.result _ c.in-Ok.ensures.1
