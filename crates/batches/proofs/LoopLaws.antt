@@ -145,3 +145,11 @@ pub shares_ready : (s : State) (b : Batch) (m n : ℕ) (shares : List ℕ) → b
 shares_ready s b m n shares h e =
     let known = facts s b m n h in
     (known.order.year, (known.point, (ap length e ∙ shares_long s b, known.lines.to)))
+
+-- the same of the list that the code fills: it is one of the shares, what books them may read it, and what it leaves is the batch's
+module _ (r : Register) (f l : List ℕ) (b : Batch) (shares numbers : List ℕ) (h : batch_number (state r f l) b (length shares) (length numbers) ≡ 0) (list : List ℕ) (e : list ≡ shares_listed r f b shares numbers) where
+  pub listed_ready : (is_thermal_year r.year ≡ true) × ((b.point < point_count) × ((length list ≡ lines_of b) × (lines_of b ≤ most_lines)))
+  listed_ready = shares_ready (state r f l) b _ _ list h (shares_told r f l b shares numbers h list e)
+
+  pub listed_booked : (t : State) → t ≡ book_some (state r f l) r.year b.point b.users list (lines_of b) → t ≡ booked_lines (state r f l) b (lines_of b)
+  listed_booked t w = shares_booked (state r f l) t b _ _ list h (shares_told r f l b shares numbers h list e) w

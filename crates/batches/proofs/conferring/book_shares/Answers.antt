@@ -1,9 +1,7 @@
 use mathlib.Core.Path.{◌≡◌, sym, ap, ◌∙◌}
-use Prim.Native.Nat.{◌≤◌}
 use lib.ListN.{length}
 use Rattle.std.proofs.lemmas.List.{length_push}
 use Rattle.std.proofs.lemmas.Slice.Zip.{zip_turn, zip_end}
-use Rattle.parts.specs.Limits.{most_amount}
 use Rattle.parts.specs.Registers.{state}
 use Rattle.batches.specs.Steps.{book_some}
 use Rattle.batches.proofs.LoopLaws.{share_grant, post_more, post_most, sum_booked}
@@ -13,17 +11,15 @@ use Rattle.batches.proofs.conferring.book_shares.Goals as goal
 
 pub overflow_add-sum : goal.overflow_add-sum
 overflow_add-sum c =
-    let t = zip_turn c.args.b.users.now c.args.shares.now c.loop-user.yielded c.into_iter-user-iterator.result c.loop-user.user-iterator c.next.new.self c.next.result (search rules) (search rules) c.loop-user.yielded_by (c.in-Some.user, c.in-Some.share) c.in-Some.is c.next.ensures.steps in
-    let booked_most : c.post-sum.result ≤ most_amount = post_most _ _ _ _ _ _ _ _ _ c.post-sum.ensures in
-    omega (arith, c.loop-user.invariant.0, t.0, c.requires.1.1.1, booked_most)
+    let t = zip_turn c.args.b.users.now c.args.shares.now _ _ _ c.next.new.self _ (search rules) (search rules) c.loop-user.yielded_by _ c.in-Some.is c.next.ensures.steps in
+    omega (arith, c.loop-user.invariant.0, t.0, c.requires.1.1.1, post_most _ _ _ _ _ _ _ _ _ c.post-sum.ensures)
 
 pub loop-user-preserved : goal.loop-user-preserved
 loop-user-preserved c =
-    let t = zip_turn c.args.b.users.now c.args.shares.now c.loop-user.yielded c.into_iter-user-iterator.result c.loop-user.user-iterator c.next.new.self c.next.result (search rules) (search rules) c.loop-user.yielded_by (c.in-Some.user, c.in-Some.share) c.in-Some.is c.next.ensures.steps in
-    let booked_most : c.post-sum.result ≤ most_amount = post_most _ _ _ _ _ _ _ _ _ c.post-sum.ensures in
+    let t = zip_turn c.args.b.users.now c.args.shares.now _ _ _ c.next.new.self _ (search rules) (search rules) c.loop-user.yielded_by _ c.in-Some.is c.next.ensures.steps in
     let g = share_grant c.args.r.year _ c.args.b.point _ c.unwrap-days.result _ (sym c.thermal_year.ensures ∙ c.unwrap-days.ensures) c.annual-g.ensures in
     rw length_push (
-      omega (arith, c.loop-user.invariant.0, booked_most),
+      omega (arith, c.loop-user.invariant.0, post_most _ _ _ _ _ _ _ _ _ c.post-sum.ensures),
       post_more c.args.r _ _ _ _ c.args.b.point c.args.b.users.now c.args.shares.now _ _ _ _ _ _ _ c.requires.0 c.requires.1.0 c.loop-user.invariant.1 (rw (t.2 0, t.3 0) at g) c.post-sum.ensures,
     )
 
