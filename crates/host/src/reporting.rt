@@ -1,9 +1,10 @@
 // The report of a free amount.
 ghost use Rattle.std.specs.Prelude.{◌≡◌};
 ghost use Rattle.parts.specs.Registers.{state};
+ghost use Rattle.parts.specs.Answers.{number_of_answer, amount_of_answer};
 ghost use Rattle.register.specs.Reports.{report_number, report_amount};
 
-use register::{Register, View};
+use register::{Refusal, Register, View};
 
 // What a report gives: the number, and the free amount, 0 for a refusal.
 #[repr(C)]
@@ -11,6 +12,17 @@ use register::{Register, View};
 pub struct Reported {
     pub number: u8,
     pub amount: u32,
+}
+
+impl From<Result<u32, Refusal>> for Reported {
+    ghost from_gives = { λ answer told. (told.number ≡ number_of_answer answer) × (told.amount ≡ amount_of_answer answer) };
+
+    fn from(answer: Result<u32, Refusal>) -> Reported {
+        Reported {
+            number: register::answer_number(&answer),
+            amount: register::answer_amount(&answer),
+        }
+    }
 }
 
 // The free amount of a point and gas-day.
@@ -23,9 +35,5 @@ pub fn ylgrandi_report(r: Register, free: &[u32], ledger: &[u32], point: u8, day
         free,
         ledger,
     };
-    let answer = register::report_free(v, point, day);
-    Reported {
-        number: register::answer_number(&answer),
-        amount: register::answer_amount(&answer),
-    }
+    Reported::from(register::report_free(v, point, day))
 }
