@@ -35,6 +35,10 @@ accounted input left e =
       demand3 = holds;
     }
 
+-- the room that the code asks for
+pub room_for_all : (bytes room count : ℕ) → count ≡ count_in bytes → 33 * count ≤ room → 33 * count_in bytes ≤ room
+room_for_all bytes room count e h = omega (arith, e, h)
+
 module _ (input f ls out : List ℕ) where
   -- number, state, buffer and count, as the contract has them
   abbrev pub Ends : ℕ → State → List ℕ → ℕ → Type 0

@@ -88,7 +88,8 @@ fn take_record(
     }
 }
 
-// All records, in order.
+// All records, in order. By number, since the count is known from the room that was asked for, and the line of a record has its number:
+// with `chunks`, `take` and `enumerate` both would be said once more.
 #[tactic(auto, using(crate::proofs::RunLaws::runs_on))]
 fn take_records(
     input: &[u8],

@@ -1,7 +1,7 @@
-use Prim.Native.Nat.{◌*◌, ◌≤◌, ◌<◌}
+use Prim.Native.Nat.{◌*◌, ◌<◌}
 use lib.ListN.{length}
 use Rattle.runs.specs.Steps.{count_in}
-use Rattle.runs.proofs.OutcomeLaws.{too_short, other_length, all_made}
+use Rattle.runs.proofs.OutcomeLaws.{room_for_all, too_short, other_length, all_made}
 use Rattle.parts.proofs.AnswerLaws.{zero_number, refused_number}
 use native.Mathlib.Omega.{arith}
 use Rattle.runs.proofs.running.run.Goals as goal
@@ -14,17 +14,13 @@ returns-then-out-count c =
 
 pub returns-in-Ok : goal.returns-in-Ok
 returns-in-Ok c =
-    let room : 33 * count_in (length c.args.input.now) ≤ length c.args.out.now = omega (arith, c.record_count-count.ensures.0, c.if-out-count.false) in
-    let fresh = c.fresh_register-fresh.ensures in
     let after = c.take_records-after.ensures in
-    let w = all_made c.args.input.now c.args.free.now c.args.ledger.now c.args.out.now _ _ _ _ room
-    (zero_number _ _ _ fresh.number c.in-Ok.is) fresh.state after.state after.place after.bytes after.bound in
+    let w = all_made c.args.input.now c.args.free.now c.args.ledger.now c.args.out.now _ _ _ _ (room_for_all _ _ _ c.record_count-count.ensures.0 c.if-out-count.false)
+    (zero_number _ _ _ c.fresh_register-fresh.ensures.number c.in-Ok.is) c.fresh_register-fresh.ensures.state after.state after.place after.bytes after.bound in
     record { number = w.0; state = w.1.0; bytes = w.1.1.0; written = w.1.1.1.0; demand = w.1.1.1.1.0; within = w.1.1.1.1.1 }
 
 pub returns-in-Err : goal.returns-in-Err
 returns-in-Err c =
-    let room : 33 * count_in (length c.args.input.now) ≤ length c.args.out.now = omega (arith, c.record_count-count.ensures.0, c.if-out-count.false) in
-    let fresh = c.fresh_register-fresh.ensures in
-    let w = other_length c.args.input.now c.args.free.now c.args.ledger.now c.args.out.now c.in-Err.why _ room
-    (refused_number _ _ _ fresh.number c.in-Err.is) fresh.state in
+    let w = other_length c.args.input.now c.args.free.now c.args.ledger.now c.args.out.now c.in-Err.why _ (room_for_all _ _ _ c.record_count-count.ensures.0 c.if-out-count.false)
+    (refused_number _ _ _ c.fresh_register-fresh.ensures.number c.in-Err.is) c.fresh_register-fresh.ensures.state in
     rw (c.refused-in-Err.ensures.answer, c.refused-in-Err.ensures.register) record { number = w.0; state = w.1.0; bytes = w.1.1.0; written = w.1.1.1.0; demand = w.1.1.1.1.0; within = w.1.1.1.1.1 }
