@@ -119,8 +119,8 @@ fn take_records(
 
 // Starts a fresh register of 2000 in the two lists, makes the calls of the input's records, at most 2,000, in order, and writes a line
 // for each into the buffer. It answers how many bytes of the buffer were written. A table or a ledger of another length, or a buffer
-// with fewer than 33 bytes for each record, is refused with 2 before anything is done. A refused run leaves the register of a refused start, of year 0. `within` follows from the clauses before it, and
-// is what a caller needs who lends on the part that was written.
+// with fewer than 33 bytes for each record, is refused with 2 before anything is done, and leaves the register of a refused start, of
+// year 0. `within` follows from the clauses before it, and is what a caller needs who lends on the part that was written.
 pub fn run(input: &[u8], free: &mut [u32], ledger: &mut [u32], out: &mut [u8]) -> Answered<usize>
     ensures number { number_of_answer result.answer ≡ run_number input.now free.old ledger.old out.old }
     ensures state { state result.register free.new ledger.new ≡ run_leaves input.now free.old
