@@ -9,6 +9,7 @@ use requests::{Product, Request};
 // How many bytes a record has.
 pub const RECORD: usize = 24;
 
+// Each number of a record has a function of its name, which alone knows where it stands.
 #[tactic(auto, unfolding(crate::specs::Records::number_at))]
 fn day_of(s: &[u8; RECORD]) -> u16
     ensures { result ≡ day_of s.now }
