@@ -6,7 +6,6 @@ use mathlib.Core.Logic.{⊎_elim}
 use mathlib.Core.List.{List}
 use Prim.Native.Nat.{ℕ, zero, suc, ◌+◌, ◌≤◌, ◌<◌}
 use native.Mathlib.Nat.{mul-le-mul, zero-mul, le_of_eq, eq-or-lt_of_le}
-use native.Mathlib.Numerals.{add-one}
 use native.Mathlib.Omega.{arith}
 use lib.Dec.{eqb}
 use lib.ListN.{get_or}
@@ -46,14 +45,6 @@ abbrev pub given : State → Batch → ℕ → Grant
 given s b i = grant_of s.register b i (share_of s b i)
 
 -- ---- one line after another
-pub booked_none : (s : State) (b : Batch) → booked_lines s b 0 ≡ s
-unfolding booked_lines
-booked_none s b = refl
-
-pub booked_next : (s : State) (b : Batch) (i : ℕ) → booked_lines s b (i + 1) ≡ booked_if (booked_lines s b i) (grant_of s.register b i (share_of s b i))
-unfolding booked_lines
-booked_next s b i = rw (add-one i)
-
 -- what holds whether the grant is booked or not
 if_booked : (P : State → Type 0) (t : State) (g : Grant) → (g.amount ≡ 0 → P t) → (0 < g.amount → P (booked t g)) → P (booked_if t g)
 if_booked P t g none some = go (eqb g.amount 0) refl

@@ -59,7 +59,7 @@ use Rattle.cessions.proofs.AnswerLaws.{CessionFacts, facts}
 use Rattle.cessions.proofs.CededLaws.{CededIn, cession_ceded}
 use Rattle.cessions.proofs.MovedLaws.{holds, held_other, giver_holds, receiver_holds}
 use Rattle.reckoning.proofs.Agreement.{at_each}
-use Rattle.reckoning.proofs.GrantSteps.{chosen, left_out}
+use Rattle.std.proofs.lemmas.Bool.{cond-true, cond-false}
 use Rattle.reckoning.proofs.BackingSums.{held_same, held_rates, held_more}
 use Rattle.reckoning.proofs.Backing.{holding, rate_of, charge_in_year, Backed, as_number, in_days, backed_empty, giver_has}
 
@@ -202,7 +202,7 @@ module _ (s : State) (g : Grant) (t : State) (b : BookedIn s g t) (w : LimitFact
 
   more : (d : ℕ) → g.first ≤ d → d ≤ g.last → holding t g.user g.point d ≡ holding s g.user g.point d + g.amount
   more d from to =
-      let c = chosen (covered g.user g.point d) g.amount
+      let c = cond-true (covered g.user g.point d) g.amount 0
       (both _ _ (both _ _ (eq-eqb g.user g.user refl) (eq-eqb g.point g.point refl)) (is_between g.first g.last d from to)) in
       omega (arith, holding_now g.user g.point d, c)
 
@@ -214,7 +214,7 @@ module _ (s : State) (g : Grant) (t : State) (b : BookedIn s g t) (w : LimitFact
           let his = and_left (is_his u p (line_of g)) (between g.first g.last d) e in
           let v = within g.first g.last d (and_right (is_his u p (line_of g)) (between g.first g.last d) e) in
           absurd (out (sym (eqb-true _ _ (and_left (eqb g.user u) (eqb g.point p) his))) (sym (eqb-true _ _ (and_right (eqb g.user u) (eqb g.point p) his))) v.from v.to)
-      go false e = omega (arith, holding_now u p d, left_out (covered u p d) g.amount e)
+      go false e = omega (arith, holding_now u p d, cond-false (covered u p d) g.amount 0 e)
 
   -- "its charge joins the commitment"
   owed_now : (u : ℕ) → (account_at t.register.accounts u).commitment ≡ charge_in_year y s.register.points (holding t u)

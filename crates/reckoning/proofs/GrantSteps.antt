@@ -30,13 +30,6 @@ use Rattle.reckoning.specs.Calls.{request_capacity, answer}
 use Rattle.reckoning.specs.Reckoning.{GrantEntry, Reckoning, grant_covers, granted_on, charges, ceded_by, grant_to, entered}
 use Rattle.reckoning.proofs.Agreement.{Agree, open_below}
 
--- what a choice between an amount and nothing is
-pub chosen : (b : Bool) (n : ℕ) → b ≡ true → cond b n 0 ≡ n
-chosen b n h = rw h
-
-pub left_out : (b : Bool) (n : ℕ) → b ≡ false → cond b n 0 ≡ 0
-left_out b n h = rw h
-
 -- a grant of the reckoning that does not cover a day at a point
 pub not_covering : (g : GrantEntry) (p d : ℕ) → grant_covers g p d ≡ false → p ≡ g.point → g.first ≤ d → d ≤ g.last → ⊥
 not_covering g p d h e from to =
