@@ -106,7 +106,7 @@ impl Gathered {
     ghost use Rattle.holdings.specs.Steps.{Sized, line_in};
 
     // Line k of those gathered.
-    pub fn line(&self, k: usize) -> GatheredLine
+    pub(crate) fn line(&self, k: usize) -> GatheredLine
         requires sized { Sized self.now }
         requires in_lists { k < line_count }
         ensures { result ≡ line_in self.now.firsts self.now.lasts self.now.amounts k }
