@@ -109,6 +109,12 @@ sum_booked r s f l f' l' p us shares n days sum hy long so booked =
 pub share_grant : (y u p a : ℕ) (days : Span) (g : Grant) → year_answer y ≡ Some days → g ≡ annual_of u p days a → g ≡ grant_for y u p a
 share_grant y u p a days g h e = let w = year_span y days h in rw (sym w.begins, sym w.ends) e
 
+-- and so is a line's grant with another user and amount
+pub grant_to_lem : (y p u a : ℕ) (whole g : Grant) → whole ≡ grant_for y 0 p 0
+    → g ≡ record { user = u; point = whole.point; kind = whole.kind; first = whole.first; last = whole.last; amount = a } → g ≡ grant_for y u p a
+grant_to_lem y p u a whole g w e =
+    e ∙ ap (λ (x : Grant). record { user = u; point = x.point; kind = x.kind; first = x.first; last = x.last; amount = a }) w
+
 -- what is booked is at most the limit
 pub post_most : (n : ℕ) (x y : Account) (p : Point) (g : Grant) (l l' : List ℕ) (m amount : ℕ) → posting y m amount l' ≡ post_after n x p g l → amount ≤ most_amount
 unfolding post_after

@@ -70,7 +70,7 @@ fn span_of(year: u16, arrival: u16) -> Option<Span>
 
 // The charge of a cession on the days of the span: that of an annual grant to the receiver. The span is that of the call: it is found
 // once and passed on, here and to `decide_held`, and a struct of both would hold the call's two days twice.
-#[tactic(auto, using(crate::proofs::CessionLaws::charge_is))]
+#[tactic(auto, using(crate::proofs::CessionLaws::charge_annual))]
 fn cession_charge(r: &Register, c: Cession, days: Span) -> u64
     requires fields { cession_fields c ≡ true }
     requires span { Spanned r.now c days }

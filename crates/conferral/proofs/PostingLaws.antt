@@ -89,7 +89,11 @@ own_user g h = omega (arith, h)
 pub own_point : (ps : List Point) (g : Grant) → g.point < point_count → point_at ps (g.point % 32) ≡ point_at ps g.point
 own_point ps g h = let e : g.point % 32 ≡ g.point = omega (arith, h) in ap (point_at ps) e
 
--- the first day of one whose span is in the year has its place in the table
+-- the days of one whose span is in the year follow each other
+pub span_days_lem : (y : ℕ) (g : Grant) → span_in_year y g.first g.last ≡ true → g.first ≤ g.last
+span_days_lem y g h = (fit_facts y g.first g.last (and_right (is_thermal_year y) (span_fits y g.first g.last) h)).ordered
+
+-- and its first day has its place in the table
 pub span_place_lem : (y : ℕ) (g : Grant) → span_in_year y g.first g.last ≡ true → entry_in y g.point g.first ≡ entry_of y g.point g.first
 span_place_lem y g h =
     let f = fit_facts y g.first g.last (and_right (is_thermal_year y) (span_fits y g.first g.last) h) in

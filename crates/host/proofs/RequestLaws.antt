@@ -7,11 +7,23 @@ use borrow.Author.Tests.{ne_eqb}
 use Rattle.parts.specs.Registers.{State}
 use Rattle.order.specs.Order.{in_order}
 use Rattle.products.specs.declared.products.Product.{Product}
-use Rattle.products.specs.declared.products.Product.TheVariants.{Month}
+use Rattle.products.specs.declared.products.Product.TheVariants.{Annual, Month, Day}
 use Rattle.requests.specs.RequestCapacity.{request_number}
 use Rattle.host.specs.Requests.{product_of, request_of}
 
 module _ (kind month day : ℕ) where
+  pub is_annual : kind ≡ 1 → Annual ≡ product_of kind month day
+  unfolding product_of
+  is_annual e = rw e
+
+  pub is_month_lem : kind ≡ 2 → Month month ≡ product_of kind month day
+  unfolding product_of
+  is_month_lem e = rw e
+
+  pub is_day_lem : kind ≡ 3 → Day day ≡ product_of kind month day
+  unfolding product_of
+  is_day_lem e = rw e
+
   pub is_none : (kind ≡ 1 → ⊥) → (kind ≡ 2 → ⊥) → (kind ≡ 3 → ⊥) → Month 0 ≡ product_of kind month day
   unfolding product_of
   is_none a m d = rw (ne_eqb kind 1 a, ne_eqb kind 2 m, ne_eqb kind 3 d)

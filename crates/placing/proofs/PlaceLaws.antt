@@ -3,6 +3,7 @@
 use mathlib.Core.Path.{◌≡◌, refl, sym, ap, ◌∙◌}
 use mathlib.Core.Bool.{true}
 use Prim.Native.Nat.{ℕ, ◌≤◌, ◌<◌}
+use native.Mathlib.Omega.{arith}
 use lib.Dec.{leb, ltb}
 use borrow.Author.Tests.{ltb-true, leb-true}
 use Rattle.days.proofs.Ranges.{and_left, and_right}
@@ -10,11 +11,18 @@ use Rattle.parts.specs.declared.registers.Register.{Register}
 use Rattle.parts.specs.Limits.{user_count, most_guarantee}
 use Rattle.parts.specs.Registers.{State, state, account_at, with_account}
 use Rattle.parts.proofs.AnswerLaws.{passes, leaves_new, leaves_old}
-use Rattle.order.proofs.OrderFacts.{InOrder, ordered}
+use Rattle.order.specs.Order.{in_order}
+use Rattle.order.proofs.OrderFacts.{InOrder, ordered, commitment_le, guarantee_le}
 use Rattle.placing.specs.PlaceGuarantee.{place_fields, place_questions, place_number, pledged, placed, place_after}
 
 pub fields_user : (u g : ℕ) → place_fields u g ≡ true → u < user_count
 fields_user u g h = ltb-true _ _ (and_left (ltb u user_count) (leb g most_guarantee) h)
+
+-- no commitment of a register in order is past the limit of a guarantee
+pub commitment_limit : (s : State) (u : ℕ) → in_order s ≡ true → u < user_count → (account_at s.register.accounts u).commitment ≤ most_guarantee
+commitment_limit s u h l =
+    let ok = (ordered s h).accounts u l in
+    omega (arith, commitment_le (account_at s.register.accounts u) ok, guarantee_le (account_at s.register.accounts u) ok)
 
 module _ (s : State) (u g : ℕ) where
   -- what an accepted guarantee tells

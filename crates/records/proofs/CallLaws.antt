@@ -1,18 +1,34 @@
 -- The call of a record, by its letter and its kind, and the numbers that its bytes write.
 -- Assumes nothing.
-use Prim.Native.Nat.{ℕ, ◌≤◌, ◌<◌}
+use Prim.Native.Nat.{ℕ, ◌+◌, ◌*◌, ◌≤◌, ◌<◌}
 use mathlib.Core.Path.{◌≡◌, refl, sym, ◌∙◌}
 use mathlib.Core.Bool.{Bool, true, false}
 use native.Mathlib.Omega.{arith}
 use lib.Seq.{take_all, length-take-le}
 use lib.Dec.{ltb}
-use mathlib.Core.List.{List}
+use mathlib.Core.List.{List, [], ◌∷◌}
 use lib.ListN.{length, take, get_or}
 use Rattle.std.proofs.lemmas.List.{get_or-take}
 use borrow.Author.Tests.{ne_eqb, lt-ltb, le-ltb, ltb-true, ltb-false}
 use Rattle.products.specs.declared.products.Product.TheVariants.{Annual, Month, Day}
 use Rattle.std.specs.Prelude.{Some, None}
-use Rattle.records.specs.Records.{number_at, letter_of, kind_of, month_of, day_of, opening_in, guarantee_in, request_for, request_in, cession_in, turn_in, call_in, decoded}
+use Rattle.records.specs.Records.{little_endian, number_at, letter_of, kind_of, month_of, day_of, opening_in, guarantee_in, request_for, request_in, cession_in, turn_in, call_in, decoded}
+
+-- the numbers that two, four and eight bytes write
+pub two_read : (s : List ℕ) (i : ℕ) {v : ℕ} → v ≡ little_endian (get_or s i 0 ∷ get_or s (i + 1) 0 ∷ []) → v ≡ number_at s i 2
+unfolding number_at
+two_read s i e = e
+
+pub four_read : (s : List ℕ) (i : ℕ) {v : ℕ} → v ≡ little_endian (get_or s i 0 ∷ get_or s (i + 1) 0 ∷ get_or s (i + 1 + 1) 0 ∷ get_or s (i + 1 + 1 + 1) 0 ∷ [])
+    → v ≡ number_at s i 4
+unfolding number_at
+four_read s i e = e
+
+pub eight_read : (s : List ℕ) (i : ℕ) {v : ℕ} (low high : ℕ) → low ≡ number_at s i 4 → high ≡ number_at s (i + 4) 4 → v ≡ low + 4294967296 * high
+    → v ≡ number_at s i 8
+unfolding number_at
+eight_read s i low high el eh ev =
+    let place : i + 1 + 1 + 1 + 1 ≡ i + 4 = omega arith in rw place (omega (arith, el, eh, ev))
 
 -- the first 24 bytes hold the call
 front : (s : List ℕ) (i : ℕ) → ltb i 24 ≡ true → get_or (take 24 s) i 0 ≡ get_or s i 0

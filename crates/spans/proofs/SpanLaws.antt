@@ -1,12 +1,12 @@
 -- Laws of arrivals and of spans.
 -- Assumes nothing.
-use mathlib.Core.Path.{◌≡◌, refl}
+use mathlib.Core.Path.{◌≡◌, refl, sym, ◌∙◌}
 use mathlib.Core.Bool.{Bool, true, false, cond, ◌&&◌, and-true, and-false}
 use Prim.Native.Nat.{ℕ, ◌+◌, ◌-◌, ◌≤◌, ◌<◌}
 use native.Mathlib.Omega.{arith}
 use lib.Dec.{leb}
 use borrow.Author.Tests.{leb-true, leb-false, le-leb, lt-leb}
-use Rattle.std.specs.Prelude.{Some, None}
+use Rattle.std.specs.Prelude.{Some, None, option_and_then}
 use Rattle.calendar.specs.declared.thermal_years.Span.{Span}
 use Rattle.calendar.specs.declared.deadlines.Timeliness.TheVariants.{InTime, Late}
 use Rattle.days.specs.Days.{last_day, between, month_length, day_number}
@@ -16,10 +16,10 @@ use Rattle.calendar.specs.Answers.{year_answer, day_in, next_first_answer, own_a
 use Rattle.days.proofs.Ranges.{and_left, and_right, within}
 use Rattle.std.proofs.lemmas.Bool.{and_from as both}
 use Rattle.days.proofs.DateLaws.{month_next}
-use Rattle.calendar.proofs.SpanLaws.{chosen, unchosen, year_span, no_year}
+use Rattle.calendar.proofs.SpanLaws.{year_span, no_year}
 use Rattle.calendar.proofs.DeadlineLaws.{next_of, next_beyond}
 use Rattle.amounts.proofs.CalendarLaws.{year_facts}
-use Rattle.spans.specs.Spans.{arrives, span_fits, span_in_year, span_ok, annual_first, annual_last, annual_answer, is_timely}
+use Rattle.spans.specs.Spans.{arrives, span_fits, span_in_year, span_ok, span_where, annual_first, annual_last, annual_answer, is_timely}
 
 -- 1 September lies 30 days before the year
 pub september : (y : ℕ) → thermal_first y ≡ day_number y 9 1 + 30
@@ -44,29 +44,36 @@ module _ (y : ℕ) (s : Span) (w : year_answer y ≡ Some s) where
   pub fits_in : (first last : ℕ) → span_in_year y first last ≡ (leb s.first first && leb first last && leb last s.last)
   fits_in first last = let x = year_span y s w in rw (x.year, x.begins, x.ends)
 
-  module _ (a : ℕ) where
-    pub annual_from : (f : ℕ) → next_first_answer a ≡ Some f → between s.first s.last f ≡ true → annual_answer y a ≡ Some (span f s.last)
-    unfolding next_first_answer day_in annual_answer
-    annual_from f n h =
-        let x = year_span y s w in
-        let e : f ≡ next_first a = (chosen _ _ f n).1 in
-        let d : between (thermal_first y) (thermal_last y) (next_first a) ≡ true = rw (← e, ← x.begins, ← x.ends) h in
-        rw (x.year, x.ends, e, last_itself y, and-true, d)
-
-    pub annual_past : (f : ℕ) → next_first_answer a ≡ Some f → between s.first s.last f ≡ false → annual_answer y a ≡ None
-    unfolding next_first_answer day_in annual_answer
-    annual_past f n h =
-        let x = year_span y s w in
-        let d : between (thermal_first y) (thermal_last y) (next_first a) ≡ false = rw (← (chosen _ _ f n).1, ← x.begins, ← x.ends) h in
-        rw (x.year, last_itself y, and-true, d)
-
-    pub annual_beyond : next_first_answer a ≡ None → annual_answer y a ≡ None
-    unfolding next_first_answer day_in annual_answer
-    annual_beyond n =
-        let h = (year_span y s w).year in
-        let past : leb (next_first a) (thermal_last y) ≡ false =
-        lt-leb _ _ (omega (arith, leb-false (next_first a) last_day (unchosen _ (next_first a) n), (year_facts y h).last)) in
+-- the span to the year's end, from the first of the next month as the calendar answers it
+pub annual_from : (y a : ℕ) → is_thermal_year y ≡ true
+    → option_and_then (λ f. span_where (between (thermal_first y) (thermal_last y) f) f (thermal_last y)) (next_first_answer a) ≡ annual_answer y a
+unfolding next_first_answer day_in annual_answer
+annual_from y a h = go (leb (next_first a) last_day) refl
+  where
+    go : (t : Bool) → leb (next_first a) last_day ≡ t
+        → option_and_then (λ f. span_where (between (thermal_first y) (thermal_last y) f) f (thermal_last y)) (cond t (Some (next_first a)) None)
+        ≡ span_where (span_in_year y (next_first a) (thermal_last y)) (next_first a) (thermal_last y)
+    go true e = rw (h, last_itself y, and-true)
+    go false e =
+        let past : leb (next_first a) (thermal_last y) ≡ false = lt-leb (next_first a) (thermal_last y) (omega (arith, leb-false (next_first a) last_day e, (year_facts y h).last)) in
         rw (h, past, and-false)
+
+-- and so from the year's span as the calendar answers it
+module _ (y : ℕ) (s : Span) (w : year_answer y ≡ Some s) (a : ℕ) where
+  pub annual_within : (f : ℕ) → next_first_answer a ≡ Some f → between s.first s.last f ≡ true → annual_answer y a ≡ Some (span f s.last)
+  annual_within f n h =
+      let x = year_span y s w in
+      let d : between (thermal_first y) (thermal_last y) f ≡ true = rw (← x.begins, ← x.ends) h in
+      sym (annual_from y a x.year) ∙ rw (n, d, x.ends)
+
+  pub annual_past : (f : ℕ) → next_first_answer a ≡ Some f → between s.first s.last f ≡ false → annual_answer y a ≡ None
+  annual_past f n h =
+      let x = year_span y s w in
+      let d : between (thermal_first y) (thermal_last y) f ≡ false = rw (← x.begins, ← x.ends) h in
+      sym (annual_from y a x.year) ∙ rw (n, d)
+
+  pub annual_beyond : next_first_answer a ≡ None → annual_answer y a ≡ None
+  annual_beyond n = sym (annual_from y a (year_span y s w).year) ∙ rw n
 
 module _ (y : ℕ) (w : year_answer y ≡ None) where
   pub arrives_never : (a : ℕ) → arrives y a ≡ false
@@ -82,7 +89,7 @@ module _ (y : ℕ) (w : year_answer y ≡ None) where
 -- how the functions come to their answers
 pub ruleset arrives_by = (after_september, arrives_in, arrives_never)
 
-pub ruleset annual_by = (annual_from, annual_past, annual_beyond, annual_never)
+pub ruleset annual_by = (annual_within, annual_past, annual_beyond, annual_never)
 
 pub ruleset fits_by = (fits_in, fits_never)
 
