@@ -3,7 +3,7 @@ ghost use Rattle.std.specs.Prelude.{◌≡◌};
 ghost use Rattle.calendar.specs.Answers.{day_in, next_first_answer, preceding_day, timely, own_answer, preceding_answer};
 
 use crate::thermal_years::calendar_month;
-use days::{LAST_DAY, date_at};
+use days::{LAST_DAY, date_at, date_of};
 use working_days::nth_working_day;
 
 // Whether an arrival is in time.
@@ -45,14 +45,11 @@ fn in_time_by(arrival: u16, deadline: u16) -> Timeliness
 }
 
 // Whether an arrival is in time by the n-th working day of its own month, for n from 1 to 18.
-#[tactic(auto, using(crate::proofs::AnswerLaws::own_answers))]
+#[tactic(auto, using(crate::proofs::AnswerLaws::own_answers), unfolding(days::specs::Answers::date_answer))]
 pub fn in_time_own_month(arrival: u16, n: u8) -> Option<Timeliness>
     ensures { result ≡ own_answer arrival n }
 {
-    if LAST_DAY < arrival {
-        return None;
-    }
-    let deadline = nth_working_day(date_at(arrival).month(), n)?;
+    let deadline = nth_working_day(date_of(arrival)?.month(), n)?;
     Some(in_time_by(arrival, deadline))
 }
 

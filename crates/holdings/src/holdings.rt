@@ -21,7 +21,7 @@ pub struct Holding {
     pub amount: u32,
 }
 
-// The first gas-day of the span on which the lines gathered sum to less than the amount. The planners' scope names the form: a loop
+// The first gas-day of the span on which the lines gathered sum to less than the amount. Document 01 names the form: a loop
 // over the days around a loop over the ledger lines, left by label with the short day. So both are plain loops, and the test stands
 // inside the inner one, so that one `break` leaves both.
 fn short_day(gathered: &Gathered, h: Holding) -> Option<u16>

@@ -51,7 +51,8 @@ pub fn line_at(ledger: &[u32], i: usize) -> Line
     Line::default()
 }
 
-// The fields are written by index: of what is written through a part of the list, the proof did not close.
+// The fields are written as they are read, by index: copied from an array of five they need a law that five numbers copied are five
+// stores, and are no plainer.
 #[tactic(auto, unfolding(crate::specs::Ledger::with_fields))]
 fn write_fields(ledger: &mut [u32], i: usize, l: Line)
     requires { Holds ledger.old i }

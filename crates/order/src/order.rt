@@ -14,8 +14,7 @@ use amounts::{capacity_on, row_of};
 use calendar::Span;
 use ledger::{Line, line_at};
 use parts::{
-    Account, LEAST_SIGNED, LEDGER, LINE, LINES, MOST_SIGNED, POINTS, Point, ROW, Register, TABLE,
-    USERS, View,
+    Account, LEDGER, LINE, LINES, POINTS, Point, ROW, Register, TABLE, USERS, View, is_amount,
 };
 
 // The entry of a row that a year of 365 days has none for.
@@ -29,7 +28,7 @@ fn points_in_order(points: &[Point; POINTS]) -> bool
 {
     let mut ok = true;
     for p in points.iter() {
-        ok = ok & p.is_in_order();
+        ok &= p.is_in_order();
     }
     ok
 }
@@ -41,7 +40,7 @@ fn accounts_in_order(accounts: &[Account; USERS]) -> bool
 {
     let mut ok = true;
     for a in accounts.iter() {
-        ok = ok & a.is_in_order();
+        ok &= a.is_in_order();
     }
     ok
 }
@@ -54,7 +53,7 @@ fn all_within(row: &[u32], total: u32) -> bool
 {
     let mut ok = true;
     for amount in row.iter() {
-        ok = ok & (*amount <= total);
+        ok &= *amount <= total;
     }
     ok
 }
@@ -70,7 +69,7 @@ fn table_in_order(points: &[Point; POINTS], days: usize, free: &[u32]) -> bool
         let at = row_of(i as u8);
         let row = all_within(&free[at..at + LAST], p.total);
         let last = free[at + LAST] <= capacity_on(days, *p, LAST);
-        ok = ok & (row & last);
+        ok &= row & last;
     }
     ok
 }
@@ -101,7 +100,7 @@ fn month_marks(year: u16, span: Span) -> [bool; ROW]
 fn amount_in_order(a: i32) -> bool
     ensures { result ≡ amount_ok a }
 {
-    (LEAST_SIGNED <= a) & (a <= -1) | (1 <= a) & (a <= MOST_SIGNED)
+    is_amount(a.unsigned_abs() as u64)
 }
 
 // What a line says by itself: its user and its point are there, its kind, its first day in the year, its amount. User, point and first

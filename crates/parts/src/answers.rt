@@ -89,8 +89,5 @@ pub fn answer_number<T>(answer: &Result<T, Refusal>) -> u8
 pub fn answer_amount(answer: &Result<u32, Refusal>) -> u32
     ensures { result ≡ amount_of_answer answer.now }
 {
-    match answer {
-        Ok(amount) => *amount,
-        Err(_) => 0,
-    }
+    answer.unwrap_or(0)
 }

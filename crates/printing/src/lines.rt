@@ -15,7 +15,7 @@ const MORE_DIGITS: usize = 9;
 fn last_digit(n: u32) -> u8
     ensures { result ≡ last_digit n }
 {
-    48 + (n % 10) as u8
+    b'0' + (n % 10) as u8
 }
 
 // The buffer and a place go in, and the next place comes back. Each of these functions asks for the room of what it writes itself, so that

@@ -74,7 +74,7 @@ pub fn free_row(free: &mut [u32], i: u8, days: usize, p: Point)
 pub fn free_table(free: &mut [u32], days: usize, points: &[Point; POINTS])
     ensures { free.new ≡ freed_table free.old days points.now }
 {
-    for i in 0..POINTS {
-        free_row(free, i as u8, days, points[i]);
+    for (i, p) in points.iter().enumerate() {
+        free_row(free, i as u8, days, *p);
     }
 }

@@ -4,7 +4,7 @@ ghost use Rattle.days.specs.Days.{day_of};
 ghost use Rattle.working_days.specs.WorkingDays.{week_earlier, easter_offset, easter_sunday, easter_monday, fixed_holiday, working, working_count, nth_of_month};
 ghost use Rattle.working_days.specs.Answers.{easter_answer, type_answer, count_answer, nth_answer};
 
-use days::{Date, LAST_DAY, Month, date_at, is_year};
+use days::{Date, Month, is_year};
 
 // Whether a gas-day is a working day.
 #[derive(Clone, Copy, PartialEq, Eq)]
@@ -92,14 +92,11 @@ pub fn easter(year: u16) -> Option<u16>
 }
 
 // Whether a gas-day is a working day.
-#[tactic(auto, using(days::proofs::DateLaws::day_date), unfolding(crate::specs::Answers::type_answer))]
+#[tactic(auto, using(days::proofs::DateLaws::day_date), unfolding(crate::specs::Answers::type_answer, days::specs::Answers::date_answer))]
 pub fn day_type(day: u16) -> Option<DayType>
     ensures { result ≡ type_answer day }
 {
-    if LAST_DAY < day {
-        return None;
-    }
-    let d = date_at(day);
+    let d = days::date_of(day)?;
     if is_working(d, day as u32, easter_monday(d.year)) {
         return Some(DayType::Working);
     }
