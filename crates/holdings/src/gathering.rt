@@ -20,9 +20,9 @@ pub(crate) struct GatheredLine {
 }
 
 // The lines that count on some days of the span, how many they are, and what all lines add that count on every day of it. A list for
-// each field of a line, so that the compiler takes several lines at once: an array of structs was tried, and on 2,000 lines of all
-// kinds it takes a fifth longer than everyday Rust, where the lists take a fifth less. Their length is fixed and the count stands beside
-// them, since there is no heap.
+// each field of a line, so that the compiler takes several lines at once: an array of structs was tried, and a cession with all lines
+// the giver's was then slower than everyday Rust, its bar. Their length is fixed and the count stands beside them, since there is no
+// heap.
 #[derive(Drop)]
 pub(crate) struct Gathered {
     pub firsts: [u16; register::LINES],
@@ -135,6 +135,7 @@ pub(crate) fn gather(year: u16, n: usize, ledger: &[u32], h: Holding) -> Gathere
         count: 0,
         base: 0,
     };
+    // By index: the ledger is a list of numbers that is lent, and `line_at` reads a line of it wherever it stands.
     for i in 0..n {
         let l = register::line_at(ledger, i);
         if is_gathered(l, h, bounds) {
