@@ -41,8 +41,6 @@ use Rattle.amounts.proofs.AmountLaws.{capacity_in}
 
 -- ---- the free amounts
 
--- ---- the free amounts
-
 -- a row: its first 365 amounts, lent by themselves, against the total, and the 366th
 pub row_is : (days : ℕ) (f : List ℕ) (i : ℕ) (p : Point) → 365 ≤ days → row_length * i + row_length ≤ length f
     → (all_below (length (take (row_length * i + 365 - row_length * i) (drop (row_length * i) f))) (at_most (take (row_length * i + 365 - row_length * i) (drop (row_length * i) f)) p.total)

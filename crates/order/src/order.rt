@@ -20,33 +20,22 @@ use parts::{
 // The entry of a row that a year of 365 days has none for.
 const LAST: usize = ROW - 1;
 
-// Each point is tested, also after one that is not in order: with `all`, which asks after each whether to go on, question 1 was timed at
-// a twentieth more where the ledger is empty. The accounts have a loop of their own, since one for both would need a trait for the test.
-#[tactic(auto, using(crate::proofs::LoopLaws::all_tested), unfolding(crate::specs::Order::points_ok))]
+// Each point is in order.
 fn points_in_order(points: &[Point; POINTS]) -> bool
     ensures { result ≡ points_ok points.now }
 {
-    let mut ok = true;
-    for p in points.iter() {
-        ok &= p.is_in_order();
-    }
-    ok
+    points.iter().all(|p| p.is_in_order())
 }
 
-// Each account is tested, as the points are.
-#[tactic(auto, using(crate::proofs::LoopLaws::all_tested), unfolding(crate::specs::Order::accounts_ok))]
+// Each account is in order.
 fn accounts_in_order(accounts: &[Account; USERS]) -> bool
     ensures { result ≡ accounts_ok accounts.now }
 {
-    let mut ok = true;
-    for a in accounts.iter() {
-        ok &= a.is_in_order();
-    }
-    ok
+    accounts.iter().all(|a| a.is_in_order())
 }
 
-// Each of some amounts is at most the total. Each is tested: with `all` the loop may be left and is not vectorised, and question 1
-// was timed at more than twice as much where the ledger is empty.
+// Each of some amounts is at most the total. A loop that tests each: with `all` it may be left at one and is not vectorised, and
+// question 1, timed at more than twice as much where the ledger is empty, misses its bar of speed.
 #[tactic(auto, using(crate::proofs::LoopLaws::all_tested))]
 fn all_within(row: &[u32], total: u32) -> bool
     ensures { result ≡ all_below (length row.now) (at_most row.now total) }
@@ -122,8 +111,8 @@ fn named_in_order(l: Line, a: Account, p: Point, opens: bool) -> bool
     a.is_on_file() & p.is_open() & ((l.kind != 2) | opens)
 }
 
-// Each used line. A line is left at its first part that is not in order: two branches that nearly always go the same way cost less
-// than one long test.
+// Each used line, by index: the ledger is one lent list with five numbers for each line, and `line_at` reads those of the i-th. A line is
+// left at its first part that is not in order: two branches that nearly always go the same way cost less than one long test.
 #[tactic(auto, using(crate::proofs::LoopLaws::all_tested), unfolding(crate::specs::Order::lines_ok))]
 fn lines_in_order(r: &Register, ledger: &[u32], span: Span) -> bool
     requires { YearSpan r.now.year span.first span.last }
