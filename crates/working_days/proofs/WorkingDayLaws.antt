@@ -2,12 +2,13 @@
 -- its 1,200 months.
 -- Assumes nothing.
 use Prim.Native.Nat.{ℕ, zero, suc, ◌+◌, ◌-◌, ◌*◌, ◌/◌, ◌%◌, ◌≤◌, ◌<◌}
-use mathlib.Core.Bool.{Bool, true, false, ◌&&◌, ◌||◌}
+use mathlib.Core.Bool.{Bool, true, false, cond, ◌&&◌, ◌||◌}
 use mathlib.Core.Path.{◌≡◌, refl, ap, ◌∙◌}
-use mathlib.Core.List.{◌∷◌}
+use mathlib.Core.List.{List, ◌∷◌}
 use native.Mathlib.Omega.{arith}
 use lib.Dec.{leb, ltb, eqb, T, leb→le, eqb→eq}
 use lib.ListN.{length, get_or}
+use Rattle.std.specs.List.{filter, range_with_len}
 use borrow.Author.Tests.{ltb-true, ltb-false, eqb-true}
 use Rattle.days.specs.Days.{last_day, between, is_year, is_month, month_length, days_before, month_start, weekday, date, date_of}
 use Rattle.working_days.specs.WorkingDays.{gauss_a, gauss_b, gauss_c, gauss_d, gauss_e, week_earlier, easter_offset, easter_sunday, fixed_holiday, working, working_day, keep_if, working_from, working_days, working_count, nth_of_month, nth_working_day}
@@ -186,30 +187,20 @@ sought_next y m e r d k s w n =
     let q : k - 1 ≡ suc (k - 1 - 1) = omega (arith, s.some) in
     record { some = omega (arith, s.some); left = omega (arith, rw p at s.left); is = rw (p, q) at s.is }
 
--- k working days come before day d, and with those from day d on, before day e, they are total
-pub record Counted (y m e total d k : ℕ) : Type 0 where
-  pub from : k < d
-  pub to : d ≤ e
-  pub sum : k + length (working_from y m d (e - d)) ≡ total
+-- the working days among k days from day d on are what a filter keeps of these
+kept : (b : Bool) (d : ℕ) (l : List ℕ) → cond b (d ∷ l) l ≡ keep_if b d l
+kept true d l = refl
+kept false d l = refl
 
-pub counted_none : (y m : ℕ) → Counted y m (month_length y m + 1) (working_count y m) 1 0
+working_kept : (y m d k : ℕ) → filter (working y m) (range_with_len d k) ≡ working_from y m d k
+unfolding working_from
+working_kept y m d zero = refl
+working_kept y m d (suc k) = rw (working_kept y m (d + 1) k) (kept (working y m d) d (working_from y m (d + 1) k))
+
+-- of a whole month
+pub month_kept : (y m : ℕ) → length (filter (working y m) (range_with_len 1 (month_length y m))) ≡ working_count y m
 unfolding working_days
-counted_none y m =
-    let e : month_length y m + 1 - 1 ≡ month_length y m = omega arith in
-    record { from = omega arith; to = omega arith; sum = rw e (omega arith) }
+month_kept y m = ap length (working_kept y m 1 (month_length y m))
 
-pub counted_pass : (y m e total d k : ℕ) → Counted y m e total d k → d < e → working y m d ≡ false → Counted y m e total (d + 1) k
-counted_pass y m e total d k s l w =
-    record { from = omega (arith, s.from); to = omega arith; sum = rw (passed_over y m d e l w) at s.sum }
-
-pub counted_next : (y m e total d k : ℕ) → Counted y m e total d k → d < e → working y m d ≡ true → Counted y m e total (d + 1) (k + 1)
-counted_next y m e total d k s l w =
-    record { from = omega (arith, s.from); to = omega arith; sum = omega (arith, rw (first_of y m d e l w) at s.sum) }
-
-pub counted_all : (y m e total d k : ℕ) → Counted y m e total d k → e ≤ d → k ≡ total
-counted_all y m e total d k s l = omega (arith, s.sum, none_left y m d e l)
-
--- of the two walks: where they begin, what is found, and that a byte counts the days that they pass
+-- of the walk: where it begins, what is found, and that a byte counts the days that it passes
 pub ruleset sought_turns = (sought_day, sought_left, sought_here)
-
-pub ruleset counted_turns = (counted_none, month_most)

@@ -104,19 +104,15 @@ pub fn day_type(day: u16) -> Option<DayType>
 }
 
 // The number of working days of a month, also of one outside the calendar.
-#[tactic(auto, using(crate::proofs::WorkingDayLaws::counted_turns))]
+#[tactic(auto, using(days::proofs::DateLaws::month_most))]
 fn count_of_month(month: Month) -> u8
     ensures { result ≡ working_count month.year month.month }
 {
     let first = month.start();
     let monday = easter_monday(month.year);
-    let mut count: u8 = 0;
-    for day in 1..month.length() + 1 {
-        if is_working(month.date(day), first + (day as u32 - 1), monday) {
-            count += 1;
-        }
-    }
-    count
+    (1..month.length() + 1)
+        .filter(|day| is_working(month.date(*day), first + (*day as u32 - 1), monday))
+        .count() as u8
 }
 
 // How many working days a month has.
