@@ -1,44 +1,47 @@
 // The lent table of free amounts: the smallest of a run is read; runs, rows and the whole table are written.
-ghost use Rattle.std.specs.Prelude.{◌≡◌, ◌-◌, min, length, replicate};
+ghost use Rattle.std.specs.Prelude.{◌≡◌, ◌+◌, min, length, replicate};
 ghost use Rattle.amounts.specs.Ranges.{replaced, least_of};
 ghost use Rattle.amounts.specs.Amounts.{taken, freed_row, freed_table};
 
 use amounts::row_of;
 use parts::{POINTS, Point, ROW};
+use std::ops::Range;
 
-// How many of the n places from `at` on lie in a list of that length. A list, a place and a number travel together, and no slice: a run
+// Which of the n places from `at` on lie in a list of that length. A list, a place and a number travel together, and no slice: a run
 // may lie past the list's end, where by the rule of the project 0 is read and nothing is written.
-fn places_within(len: usize, at: usize, n: usize) -> usize
-    ensures { result ≡ min n (len - at) }
+fn places_within(len: usize, at: usize, n: usize) -> Range<usize>
+    ensures from { result.start ≡ min at len }
+    ensures to { result.end ≡ min (at + n) len }
 {
-    n.min(len.saturating_sub(at))
+    let from = at.min(len);
+    from..from + n.min(len - from)
 }
 
-// The smallest of `most` and of the n free amounts from place `at` on; an amount past the end is 0, by that
-// rule, and so there is no `Option`.
+// The smallest of `most` and of the n free amounts from place `at` on; an amount past the end is 0, by that rule, and so there is no
+// `Option`.
 #[tactic(auto, using(amounts::proofs::RangeLaws::least_past), unfolding(amounts::specs::Ranges::least_of))]
 pub fn least_free(free: &[u32], at: usize, n: usize, most: u32) -> u32
     ensures { result ≡ least_of free.now at n most }
 {
-    let within = places_within(free.len(), at, n);
-    let mut least = most;
-    for k in 0..within {
-        least = least.min(free[at + k]);
-    }
-    if within < n {
+    let run = &free[places_within(free.len(), at, n)];
+    if run.len() < n {
         return 0;
+    }
+    let mut least = most;
+    for amount in run.iter() {
+        least = least.min(*amount);
     }
     least
 }
 
 // Takes an amount from each of the n free amounts from place `at` on. What would go below 0 stays at 0.
-#[tactic(auto, using(crate::proofs::TableLaws::take_turns))]
+#[tactic(auto, using(crate::proofs::TableLaws::run_put), unfolding(amounts::specs::Amounts::taken))]
 pub fn take_free(free: &mut [u32], at: usize, n: usize, amount: u32)
     ensures { free.new ≡ taken free.old at n amount }
 {
-    let within = places_within(free.len(), at, n);
-    for k in 0..within {
-        free[at + k] = free[at + k].saturating_sub(amount);
+    let places = places_within(free.len(), at, n);
+    for x in free[places].iter_mut() {
+        *x = x.saturating_sub(amount);
     }
 }
 
@@ -50,12 +53,12 @@ pub fn clear(list: &mut [u32])
 }
 
 // Each of the n numbers from place `at` on becomes v.
+#[tactic(auto, using(crate::proofs::TableLaws::run_put))]
 fn fill(list: &mut [u32], at: usize, n: usize, v: u32)
     ensures { list.new ≡ replaced list.old at n (λ _. v) }
 {
-    let from = at.min(list.len());
-    let to = from + places_within(list.len(), at, n);
-    list[from..to].fill(v);
+    let places = places_within(list.len(), at, n);
+    list[places].fill(v);
 }
 
 // Every gas-day of a year with so many days is free to the total of point i. The places after the year's end are filled apart, so
