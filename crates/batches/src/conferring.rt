@@ -9,7 +9,7 @@ ghost use Rattle.shares.specs.ShareLines.{most_lines, shares_of, numbers_of};
 ghost use Rattle.batches.specs.ConferBatch.{batch_number, booked_lines, batch_after, shares_after, numbers_after};
 ghost use Rattle.batches.specs.Steps.{book_some};
 
-use conferral::{Grant, USERS};
+use conferral::Grant;
 use register::{Answered, Refusal, Register, View};
 use shares::Batch;
 
@@ -57,7 +57,7 @@ fn book_shares(
     let mut sum: u32 = 0;
     for (user, share) in b.users.iter().zip(shares) {
         let g = Grant::annual(*user, b.point, days, *share);
-        let place = (g.user % USERS) as usize;
+        let place = g.user as usize % register::USERS;
         let mut lines = r.lines;
         sum += conferral::post(&mut lines, &mut r.accounts[place], p, ledger, g);
         r.lines = lines;

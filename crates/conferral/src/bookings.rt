@@ -1,7 +1,7 @@
 // Grants: their charge, what a guarantee covers, and how they are booked.
 ghost use Rattle.std.specs.Prelude.{◌≡◌};
 ghost use Rattle.parts.specs.Registers.{state};
-ghost use Rattle.conferral.specs.Bookings.{covers, lines_left, charge_within, is_covered, book_after};
+ghost use Rattle.conferral.specs.Bookings.{covers, lines_left, charge_answer, charge_within, is_covered, book_after};
 ghost use Rattle.conferral.specs.Postings.{room_for, posting, post_after};
 
 use calendar::Span;
@@ -22,13 +22,12 @@ pub struct Grant {
     pub amount: u32,
 }
 
-// The kind of an annual grant and of its ledger line.
+// The kinds of a grant and of its ledger line.
 pub const ANNUAL: u8 = 1;
 
-// Users and points, as wide as a grant names them.
-pub const USERS: u8 = register::USERS as u8;
+pub const MONTH: u8 = 2;
 
-pub const POINTS: u8 = register::POINTS as u8;
+pub const DAY: u8 = 3;
 
 impl Grant {
     ghost use Rattle.std.specs.Prelude.{◌≤◌};
@@ -65,7 +64,7 @@ impl Grant {
     {
         register::names_user(self.user)
             & register::names_point(self.point)
-            & ((1 <= self.kind) & (self.kind <= 3))
+            & ((ANNUAL <= self.kind) & (self.kind <= DAY))
             & register::is_amount(self.amount as u64)
     }
 
@@ -110,15 +109,23 @@ impl Grant {
     }
 }
 
+// The charge of a grant within limits. Any other has none.
+#[tactic(auto, using(crate::proofs::RoomLaws::limits, crate::proofs::RoomLaws::charge_bounds), unfolding(crate::specs::Bookings::charge_answer))]
+fn charge(r: &Register, g: Grant) -> Option<u64>
+    ensures { result ≡ charge_answer r.now g }
+{
+    if !g.is_within_limits(r.year) {
+        return None;
+    }
+    Some(g.charge_at(r.points[g.point as usize]))
+}
+
 // The charge of a grant within limits; of any other the largest number, which no guarantee covers.
-#[tactic(auto, using(crate::proofs::RoomLaws::limits, crate::proofs::RoomLaws::charge_bounds), unfolding(crate::specs::Bookings::charge_within))]
+#[tactic(auto, using(crate::proofs::RoomLaws::charge_or_most))]
 pub fn charge_within(r: &Register, g: Grant) -> u64
     ensures { result ≡ charge_within r.now g }
 {
-    if !g.is_within_limits(r.year) {
-        return register::MOST_WORD;
-    }
-    g.charge_at(r.points[g.point as usize])
+    charge(r, g).unwrap_or(register::MOST_WORD)
 }
 
 // Whether a guarantee covers the commitment and a charge more.
@@ -139,14 +146,13 @@ pub fn lines_left(r: &Register, n: usize) -> bool
 }
 
 // Whether a grant is within limits and its user's guarantee covers its charge.
-#[tactic(auto, using(crate::proofs::RoomLaws::limits, crate::proofs::RoomLaws::charge_bounds), unfolding(crate::specs::Bookings::is_covered))]
+#[tactic(auto, using(crate::proofs::RoomLaws::charge_user, crate::proofs::RoomLaws::charge_covers, crate::proofs::RoomLaws::charge_missing))]
 pub fn is_covered(r: &Register, g: Grant) -> bool
     ensures { result ≡ is_covered r.now g }
 {
-    if !g.is_within_limits(r.year) {
+    let Some(charge) = charge(r, g) else {
         return false;
-    }
-    let charge = g.charge_at(r.points[g.point as usize]);
+    };
     covers_charge(r.accounts[g.user as usize], charge)
 }
 
@@ -188,8 +194,8 @@ pub fn book(mut r: Register, free: &mut [u32], ledger: &mut [u32], g: Grant) -> 
     if !is_span(r.year, g.first, g.last) {
         return r;
     }
-    let user = (g.user % USERS) as usize;
-    let p = r.points[(g.point % POINTS) as usize];
+    let user = g.user as usize % register::USERS;
+    let p = r.points[g.point as usize % register::POINTS];
     let mut lines = r.lines;
     let amount = post(&mut lines, &mut r.accounts[user], p, ledger, g);
     r.lines = lines;

@@ -7,6 +7,6 @@
 mod bookings;
 
 pub use bookings::{
-    ANNUAL, Grant, POINTS, USERS, book, charge_within, covers_charge, is_covered, lines_left, post,
+    ANNUAL, DAY, Grant, MONTH, book, charge_within, covers_charge, is_covered, lines_left, post,
 };
 pub use spans::{annual_span, is_arrival, is_timely};

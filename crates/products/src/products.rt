@@ -33,9 +33,9 @@ impl Product {
         ensures { result ≡ kind_of self }
     {
         match self {
-            Product::Annual => 1,
-            Product::Month(_) => 2,
-            Product::Day(_) => 3,
+            Product::Annual => conferral::ANNUAL,
+            Product::Month(_) => conferral::MONTH,
+            Product::Day(_) => conferral::DAY,
         }
     }
 

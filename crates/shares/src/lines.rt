@@ -8,7 +8,6 @@ ghost use Rattle.shares.specs.Batches.{batch_in, line_fields, line_number};
 ghost use Rattle.shares.specs.Steps.{number_for};
 
 use crate::batches::Batch;
-use conferral::USERS;
 use register::{Account, Point, Refusal, Register, answer_number};
 
 // Question 2 of a line.
@@ -64,7 +63,7 @@ pub(crate) fn ask_lines(r: &Register, b: Batch, numbers: &mut [u8])
     for i in 0..b.users.len() {
         let user = b.users[i];
         let place = user as usize;
-        let a = r.accounts[(user % USERS) as usize];
+        let a = r.accounts[place % register::USERS];
         let answer = line_questions(days, a, p, user, b.asked[i], named[place]);
         numbers[i] = answer_number(&answer);
         named[place] = true;
