@@ -256,11 +256,11 @@ module _ (s : State) (b : Batch) (m n : ℕ) (sound : Sound s) (z : batch_number
     unfolding sum_below
     day_has d h = omega (arith, w.day d h, free_of_year_le s b.point d h, share_sum s b, sum_first (share_of s b) (suc i) (lines_of b) (omega (arith, l)))
 
-    place_has : (j : ℕ) → j < days_of (given s b i) → share_of s b i ≤ get_or t.free (entry_of t.register.year b.point (given s b i).first + j) 0
+    place_has : (j : ℕ) → j < days_of (given s b i) → share_of s b i ≤ get_or t.free (entry_of t.register.year b.point (given s b i).days.first + j) 0
     place_has j h =
         let d = thermal_first s.register.year + j in
         let first = ap (λ (x : ℕ). thermal_first x) k.year in
-        let e : entry_of t.register.year b.point (given s b i).first + j ≡ entry_of t.register.year b.point (thermal_first s.register.year + j) = omega (arith, first) in
+        let e : entry_of t.register.year b.point (given s b i).days.first + j ≡ entry_of t.register.year b.point (thermal_first s.register.year + j) = omega (arith, first) in
         rw e (day_has d (day_in_lem s.register.year d (known s b m n z).order.year (omega arith) (omega (arith, h))))
 
     bookable : 0 < share_of s b i → Bookable t (given s b i)

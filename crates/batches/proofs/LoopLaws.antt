@@ -8,7 +8,7 @@ use native.Mathlib.Numerals.{add-one}
 use native.Mathlib.Omega.{arith}
 use lib.ListN.{get_or, length}
 use Rattle.std.specs.Prelude.{Some}
-use Rattle.calendar.specs.ThermalYears.{is_thermal_year, thermal_first, thermal_last}
+use Rattle.calendar.specs.ThermalYears.{span, is_thermal_year, thermal_first, thermal_last}
 use Rattle.calendar.specs.declared.thermal_years.Span.{Span}
 use Rattle.calendar.specs.Answers.{year_answer}
 use Rattle.calendar.proofs.SpanLaws.{year_span}
@@ -80,14 +80,13 @@ post_more r s f₀ l₀ l p us shares i sum g x n amount l' hy hp before grant e
     let year : s.year ≡ r.year = ap (λ (t : State). t.register.year) before ∙ some_year start r.year p us shares i in
     let points : s.points ≡ r.points = ap (λ (t : State). t.register.points) before ∙ some_points start r.year p us shares i in
     let placed : g.point ≡ p = ap (λ (z : Grant). z.point) grant in
-    let begins : g.first ≡ thermal_first r.year = ap (λ (z : Grant). z.first) grant in
-    let ends : g.last ≡ thermal_last r.year = ap (λ (z : Grant). z.last) grant in
-    let span : span_in_year s.year g.first g.last ≡ true = rw (year, begins, ends) (whole_span r.year hy) in
-    let place : entry_of s.year g.point g.first ≡ entry_at p 0 = rw (year, begins, placed) (omega arith) in
-    let days : days_of g ≡ year_days r.year = rw (begins, ends) in
-    let parts = posted_booked s g span (g.user % 64) (point_at r.points p) (own_user g) (λ h. rw (points, placed)) f l (posting x n amount l') e in
+    let whole : g.days ≡ span (thermal_first r.year) (thermal_last r.year) = ap (λ (z : Grant). z.days) grant in
+    let fits : span_in_year s.year g.days.first g.days.last ≡ true = rw (year, whole) (whole_span r.year hy) in
+    let place : entry_of s.year g.point g.days.first ≡ entry_at p 0 = rw (year, whole, placed) (omega arith) in
+    let days : days_of g ≡ year_days r.year = rw whole in
+    let parts = posted_booked s g fits (g.user % 64) (point_at r.points p) (own_user g) (λ h. rw (points, placed)) f l (posting x n amount l') e in
     let joined : state (with_lines (with_account s (g.user % 64) x) n) (taken f₀ (entry_at p 0) (year_days r.year) (sum + amount)) l'
-    ≡ state (with_lines (with_account s (g.user % 64) x) n) (taken f (entry_of s.year g.point g.first) (days_of g) amount) l' =
+    ≡ state (with_lines (with_account s (g.user % 64) x) n) (taken f (entry_of s.year g.point g.days.first) (days_of g) amount) l' =
     rw (place, days, taken_twice f₀ (entry_at p 0) (year_days r.year) sum amount) in
     book_more start (state s f l) (state (with_lines (with_account s (g.user % 64) x) n) (taken f₀ (entry_at p 0) (year_days r.year) (sum + amount)) l') r.year p us shares i g before grant
     (joined ∙ parts)
@@ -111,9 +110,9 @@ share_grant y u p a days g h e = let w = year_span y days h in rw (sym w.begins,
 
 -- and so is a line's grant with another user and amount
 pub grant_to_lem : (y p u a : ℕ) (whole g : Grant) → whole ≡ grant_for y 0 p 0
-    → g ≡ record { user = u; point = whole.point; kind = whole.kind; first = whole.first; last = whole.last; amount = a } → g ≡ grant_for y u p a
+    → g ≡ record { user = u; point = whole.point; kind = whole.kind; days = whole.days; amount = a } → g ≡ grant_for y u p a
 grant_to_lem y p u a whole g w e =
-    e ∙ ap (λ (x : Grant). record { user = u; point = x.point; kind = x.kind; first = x.first; last = x.last; amount = a }) w
+    e ∙ ap (λ (x : Grant). record { user = u; point = x.point; kind = x.kind; days = x.days; amount = a }) w
 
 -- what is booked is at most the limit
 pub post_most : (n : ℕ) (x y : Account) (p : Point) (g : Grant) (l l' : List ℕ) (m amount : ℕ) → posting y m amount l' ≡ post_after n x p g l → amount ≤ most_amount

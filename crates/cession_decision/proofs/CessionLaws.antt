@@ -83,16 +83,16 @@ module _ (r : Register) (c : Cession) where
   -- ---- the charge
   -- that of a grant to the receiver, whatever its kind
   pub charge_is : (days : Span) (kind : ℕ) → FieldFacts c → Spanned r c days → Within 1 3 kind
-      → charge_within r (record { user = c.receiver; point = c.point; kind = kind; first = days.first; last = days.last; amount = c.amount }) ≡ charge_of r c
+      → charge_within r (record { user = c.receiver; point = c.point; kind = kind; days = days; amount = c.amount }) ≡ charge_of r c
   charge_is days kind f w k =
       let s = span_facts r.year c.arrival (span_first c) (span_last r) w.fits in
       rw w.is
-      (charge_within_lem r (record { user = c.receiver; point = c.point; kind = kind; first = span_first c; last = span_last r; amount = c.amount })
+      (charge_within_lem r (record { user = c.receiver; point = c.point; kind = kind; days = span_of r c; amount = c.amount })
       (record { year = s.year; fit = s.fit; user = f.receiver; point = f.point; kind = k; amount = f.amount }))
 
   -- and so of an annual one, as the code finds it
   pub charge_annual : (days : Span) → cession_fields c ≡ true → Spanned r c days
-      → charge_within r (record { user = c.receiver; point = c.point; kind = 1; first = days.first; last = days.last; amount = c.amount }) ≡ charge_of r c
+      → charge_within r (record { user = c.receiver; point = c.point; kind = 1; days = days; amount = c.amount }) ≡ charge_of r c
   charge_annual days h w = charge_is days 1 (fields c h) w (record { from = omega arith; to = omega arith })
 
 -- ---- decisions

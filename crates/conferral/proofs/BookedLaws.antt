@@ -37,9 +37,9 @@ pub record Bookable (s : State) (g : Grant) : Type 0 where
   pub room : Room s.register g
   pub filed : (account_at s.register.accounts g.user).on_file ≡ 1
   pub open_point_lem : 0 < (point_at s.register.points g.point).kind
-  pub month : (not (eqb g.kind 2) || is_month_first s.register.year g.first) ≡ true
-  pub last : line_last s.register.year (line_of g) ≡ g.last
-  pub free : (k : ℕ) → k < days_of g → g.amount ≤ get_or s.free (entry_of s.register.year g.point g.first + k) 0
+  pub month : (not (eqb g.kind 2) || is_month_first s.register.year g.days.first) ≡ true
+  pub last : line_last s.register.year (line_of g) ≡ g.days.last
+  pub free : (k : ℕ) → k < days_of g → g.amount ≤ get_or s.free (entry_of s.register.year g.point g.days.first + k) 0
 
 -- t is s with a grant booked, number by number
 pub record BookedIn (s : State) (g : Grant) (t : State) : Type 0 where
@@ -52,15 +52,15 @@ pub record BookedIn (s : State) (g : Grant) (t : State) : Type 0 where
   pub on_file : (i : ℕ) → (account_at t.register.accounts i).on_file ≡ (account_at s.register.accounts i).on_file
   pub other_user : (i : ℕ) → (i ≡ g.user → ⊥) → account_at t.register.accounts i ≡ account_at s.register.accounts i
   -- "The grant is taken from each of those days", and every other number of the table is unchanged
-  pub day : (d : ℕ) → g.first ≤ d → d ≤ g.last → free_on t g.point d + g.amount ≡ free_on s g.point d
-  pub other_day : (p d : ℕ) → p < point_count → in_thermal_year s.register.year d ≡ true → (p ≡ g.point → g.first ≤ d → d ≤ g.last → ⊥)
+  pub day : (d : ℕ) → g.days.first ≤ d → d ≤ g.days.last → free_on t g.point d + g.amount ≡ free_on s g.point d
+  pub other_day : (p d : ℕ) → p < point_count → in_thermal_year s.register.year d ≡ true → (p ≡ g.point → g.days.first ≤ d → d ≤ g.days.last → ⊥)
       → free_on t p d ≡ free_on s p d
-  pub other_place : (j : ℕ) → (entry_of s.register.year g.point g.first ≤ j → j < entry_of s.register.year g.point g.first + days_of g → ⊥)
+  pub other_place : (j : ℕ) → (entry_of s.register.year g.point g.days.first ≤ j → j < entry_of s.register.year g.point g.days.first + days_of g → ⊥)
       → get_or t.free j 0 ≡ get_or s.free j 0
   -- "one line is written", which ends with the grant, and every other line is unchanged
   pub lines : t.register.lines ≡ s.register.lines + 1
   pub line : line_at t.ledger s.register.lines ≡ line_of g
-  pub line_ends : line_last t.register.year (line_at t.ledger s.register.lines) ≡ g.last
+  pub line_ends : line_last t.register.year (line_at t.ledger s.register.lines) ≡ g.days.last
   pub other_line : (i : ℕ) → (i ≡ s.register.lines → ⊥) → line_at t.ledger i ≡ line_at s.ledger i
   -- a sound register stays sound: sized and in order
   pub sound : Sound t
@@ -98,7 +98,7 @@ module _ (s : State) (g : Grant) (sound : Sound s) (b : Bookable s g) where
   raised = committed user (charge_of s.register g)
 
   abbrev at : ℕ
-  at = entry_of y g.point g.first
+  at = entry_of y g.point g.days.first
 
   order : InOrder s
   order = ordered s sound.order
@@ -107,14 +107,14 @@ module _ (s : State) (g : Grant) (sound : Sound s) (b : Bookable s g) where
   in_accounts = omega (arith, sound.sized.accounts, b.room.limits.user)
 
   -- its days lie in the row of its point, and so in the table
-  in_row : g.first - thermal_first y + days_of g ≤ row_length
+  in_row : g.days.first - thermal_first y + days_of g ≤ row_length
   in_row = let w = b.room.limits in omega (arith, w.fit.begins, w.fit.ordered, w.fit.ends, (year_facts y w.year).most)
 
   in_table : at + days_of g ≤ length s.free
   in_table = omega (arith, in_row, order.table_length_lem, b.room.limits.point)
 
   -- ---- the free amounts
-  lowered : (d : ℕ) → g.first ≤ d → d ≤ g.last → free_on (booked s g) g.point d + g.amount ≡ free_on s g.point d
+  lowered : (d : ℕ) → g.days.first ≤ d → d ≤ g.days.last → free_on (booked s g) g.point d + g.amount ≡ free_on s g.point d
   unfolding booked
   lowered d from to =
       each_place (λ (j : ℕ). get_or (booked s g).free j 0 + g.amount ≡ get_or s.free j 0) at (days_of g)
@@ -125,7 +125,7 @@ module _ (s : State) (g : Grant) (sound : Sound s) (b : Bookable s g) where
   unfolding booked
   beside j out = taken_out s.free at (days_of g) g.amount j out
 
-  other : (p d : ℕ) → p < point_count → in_thermal_year y d ≡ true → (p ≡ g.point → g.first ≤ d → d ≤ g.last → ⊥) → free_on (booked s g) p d ≡ free_on s p d
+  other : (p d : ℕ) → p < point_count → in_thermal_year y d ≡ true → (p ≡ g.point → g.days.first ≤ d → d ≤ g.days.last → ⊥) → free_on (booked s g) p d ≡ free_on s p d
   unfolding booked
   other p d hp hd ne =
       let w = day_within y d hd in

@@ -34,7 +34,7 @@ pub record RoomFacts (n : ℕ) (a : Account) (p : Point) (g : Grant) : Type 0 wh
   pub user : g.user < user_count
   pub point : g.point < point_count
   pub amount : g.amount ≤ most_amount
-  pub bounds : (g.first ≤ g.last) × ((g.last ≤ last_day) × ((days_of g ≤ row_length) × (g.amount ≤ most_amount)))
+  pub bounds : (g.days.first ≤ g.days.last) × ((g.days.last ≤ last_day) × ((days_of g ≤ row_length) × (g.amount ≤ most_amount)))
   pub covered : covers a (charge_at p g) ≡ true
   pub line : n < line_count
 
@@ -43,25 +43,25 @@ module _ (g : Grant) where
   amount_most h = (within 1 most_amount g.amount (every_at (field_tests g) 3 h)).to
 
   -- the charge of such a grant can be found
-  pub ordered_bounds : (every (field_tests g) && days_ordered g) ≡ true → (g.first ≤ g.last) × ((g.last ≤ last_day) × ((days_of g ≤ row_length) × (g.amount ≤ most_amount)))
+  pub ordered_bounds : (every (field_tests g) && days_ordered g) ≡ true → (g.days.first ≤ g.days.last) × ((g.days.last ≤ last_day) × ((days_of g ≤ row_length) × (g.amount ≤ most_amount)))
   ordered_bounds h =
       let d = and_right (every (field_tests g)) (days_ordered g) h in
-      let e = and_right (leb g.first g.last) (leb g.last last_day && leb (g.last + 1) (g.first + row_length)) d in
-      let most : g.last + 1 ≤ g.first + row_length = leb-true (g.last + 1) (g.first + row_length) (and_right (leb g.last last_day) (leb (g.last + 1) (g.first + row_length)) e) in (
-        leb-true _ _ (and_left (leb g.first g.last) (leb g.last last_day && leb (g.last + 1) (g.first + row_length)) d),
+      let e = and_right (leb g.days.first g.days.last) (leb g.days.last last_day && leb (g.days.last + 1) (g.days.first + row_length)) d in
+      let most : g.days.last + 1 ≤ g.days.first + row_length = leb-true (g.days.last + 1) (g.days.first + row_length) (and_right (leb g.days.last last_day) (leb (g.days.last + 1) (g.days.first + row_length)) e) in (
+        leb-true _ _ (and_left (leb g.days.first g.days.last) (leb g.days.last last_day && leb (g.days.last + 1) (g.days.first + row_length)) d),
         (
-          leb-true _ _ (and_left (leb g.last last_day) (leb (g.last + 1) (g.first + row_length)) e),
+          leb-true _ _ (and_left (leb g.days.last last_day) (leb (g.days.last + 1) (g.days.first + row_length)) e),
           (omega (arith, most), amount_most (and_left (every (field_tests g)) (days_ordered g) h)),
         ),
       )
 
   -- a span in a thermal year has its days in order
-  span_ordered : (y : ℕ) → span_in_year y g.first g.last ≡ true → days_ordered g ≡ true
+  span_ordered : (y : ℕ) → span_in_year y g.days.first g.days.last ≡ true → days_ordered g ≡ true
   span_ordered y h =
-      let f = fit_facts y g.first g.last (and_right (is_thermal_year y) (span_fits y g.first g.last) h) in
-      let w = year_facts y (and_left (is_thermal_year y) (span_fits y g.first g.last) h) in
-      both (leb g.first g.last) (leb g.last last_day && leb (g.last + 1) (g.first + row_length)) (le-leb g.first g.last f.ordered)
-      (both (leb g.last last_day) (leb (g.last + 1) (g.first + row_length)) (le-leb g.last last_day (omega (arith, f.ends, w.last))) (le-leb (g.last + 1) (g.first + row_length) (omega (arith, f.begins, f.ordered, f.ends, w.most))))
+      let f = fit_facts y g.days.first g.days.last (and_right (is_thermal_year y) (span_fits y g.days.first g.days.last) h) in
+      let w = year_facts y (and_left (is_thermal_year y) (span_fits y g.days.first g.days.last) h) in
+      both (leb g.days.first g.days.last) (leb g.days.last last_day && leb (g.days.last + 1) (g.days.first + row_length)) (le-leb g.days.first g.days.last f.ordered)
+      (both (leb g.days.last last_day) (leb (g.days.last + 1) (g.days.first + row_length)) (le-leb g.days.last last_day (omega (arith, f.ends, w.last))) (le-leb (g.days.last + 1) (g.days.first + row_length) (omega (arith, f.begins, f.ordered, f.ends, w.most))))
 
 module _ (n : ℕ) (a : Account) (p : Point) (g : Grant) where
   abbrev fit : Bool
@@ -90,22 +90,22 @@ pub own_point : (ps : List Point) (g : Grant) → g.point < point_count → poin
 own_point ps g h = let e : g.point % 32 ≡ g.point = omega (arith, h) in ap (point_at ps) e
 
 -- the days of one whose span is in the year follow each other
-pub span_days_lem : (y : ℕ) (g : Grant) → span_in_year y g.first g.last ≡ true → g.first ≤ g.last
-span_days_lem y g h = (fit_facts y g.first g.last (and_right (is_thermal_year y) (span_fits y g.first g.last) h)).ordered
+pub span_days_lem : (y : ℕ) (g : Grant) → span_in_year y g.days.first g.days.last ≡ true → g.days.first ≤ g.days.last
+span_days_lem y g h = (fit_facts y g.days.first g.days.last (and_right (is_thermal_year y) (span_fits y g.days.first g.days.last) h)).ordered
 
 -- and its first day has its place in the table
-pub span_place_lem : (y : ℕ) (g : Grant) → span_in_year y g.first g.last ≡ true → entry_in y g.point g.first ≡ entry_of y g.point g.first
+pub span_place_lem : (y : ℕ) (g : Grant) → span_in_year y g.days.first g.days.last ≡ true → entry_in y g.point g.days.first ≡ entry_of y g.point g.days.first
 span_place_lem y g h =
-    let f = fit_facts y g.first g.last (and_right (is_thermal_year y) (span_fits y g.first g.last) h) in
-    entry_in_lem y g.point g.first (day_in_lem y g.first (and_left (is_thermal_year y) (span_fits y g.first g.last) h) f.begins (omega (arith, f.ordered, f.ends)))
+    let f = fit_facts y g.days.first g.days.last (and_right (is_thermal_year y) (span_fits y g.days.first g.days.last) h) in
+    entry_in_lem y g.point g.days.first (day_in_lem y g.days.first (and_left (is_thermal_year y) (span_fits y g.days.first g.days.last) h) f.begins (omega (arith, f.ordered, f.ends)))
 
 -- a grant whose span is not in the year is not booked
-pub span_out : (s : State) (g : Grant) → span_in_year s.register.year g.first g.last ≡ false → s ≡ book_after s g
+pub span_out : (s : State) (g : Grant) → span_in_year s.register.year g.days.first g.days.last ≡ false → s ≡ book_after s g
 unfolding book_after has_room is_covered within_limits
 span_out s g h = rw h
 
 -- ---- the parts that a grant names whose span is in the year: account k and the point p
-module _ (r : Register) (g : Grant) (span : span_in_year r.year g.first g.last ≡ true) (k : ℕ) (p : Point) (user : g.user < user_count → k ≡ g.user) (point : g.point < point_count → p ≡ point_at r.points g.point) where
+module _ (r : Register) (g : Grant) (span : span_in_year r.year g.days.first g.days.last ≡ true) (k : ℕ) (p : Point) (user : g.user < user_count → k ≡ g.user) (point : g.point < point_count → p ≡ point_at r.points g.point) where
   abbrev a : Account
   a = account_at r.accounts k
 
@@ -130,11 +130,11 @@ module _ (r : Register) (g : Grant) (span : span_in_year r.year g.first g.last �
   -- the register with them in it, and the amount taken
   abbrev with_parts : List ℕ → Posting → State
   with_parts f t =
-      state (with_lines (with_account r k t.account) t.lines) (taken f (entry_of r.year g.point g.first) (days_of g) t.amount) t.ledger
+      state (with_lines (with_account r k t.account) t.lines) (taken f (entry_of r.year g.point g.days.first) (days_of g) t.amount) t.ledger
 
   left : (f ls : List ℕ) → with_parts f (posting a r.lines 0 ls) ≡ state r f ls
   left f ls =
-      rw (taken_none f (entry_of r.year g.point g.first) (days_of g))
+      rw (taken_none f (entry_of r.year g.point g.days.first) (days_of g))
       (ap (λ (us : List Account). state (with_accounts r us) f ls) (set-get_or r.accounts k absent_user))
 
   taken_up : (f ls : List ℕ) → every (field_tests g) ≡ true
@@ -180,9 +180,9 @@ after_points s g = go (has_room s.register g)
     go false = refl
 
 -- the register as the code leaves it
-pub book_as : (r : Register) (g : Grant) (f ls : List ℕ) → span_in_year r.year g.first g.last ≡ true → (t : Posting) (place : ℕ) (h : List ℕ)
+pub book_as : (r : Register) (g : Grant) (f ls : List ℕ) → span_in_year r.year g.days.first g.days.last ≡ true → (t : Posting) (place : ℕ) (h : List ℕ)
     → t ≡ post_after r.lines (account_at r.accounts (g.user % 64)) (point_at r.points (g.point % 32)) g ls
-    → place ≡ entry_in r.year g.point g.first
+    → place ≡ entry_in r.year g.point g.days.first
     → h ≡ taken f place (days_of g) t.amount
     → state (with_lines (with_account r (g.user % 64) t.account) t.lines) h t.ledger ≡ book_after (state r f ls) g
 book_as r g f ls span t place h post-so place-so taken-so =

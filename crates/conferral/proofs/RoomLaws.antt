@@ -33,7 +33,7 @@ charge_exact amount days rate a d r = omega (arith, mul-le-mul (mul-le-mul a d) 
 -- ---- within limits
 pub record LimitFacts (y : ℕ) (g : Grant) : Type 0 where
   pub year : is_thermal_year y ≡ true
-  pub fit : FitFacts y g.first g.last
+  pub fit : FitFacts y g.days.first g.days.last
   pub user : g.user < user_count
   pub point : g.point < point_count
   pub kind : Within 1 3 g.kind
@@ -43,11 +43,11 @@ module _ (y : ℕ) (g : Grant) where
   pub limits : within_limits y g ≡ true → LimitFacts y g
   unfolding within_limits
   limits h =
-      let span = and_left (span_in_year y g.first g.last) (every (field_tests g)) h in
-      let fields = and_right (span_in_year y g.first g.last) (every (field_tests g)) h in
+      let span = and_left (span_in_year y g.days.first g.days.last) (every (field_tests g)) h in
+      let fields = and_right (span_in_year y g.days.first g.days.last) (every (field_tests g)) h in
       record {
-        year = and_left (is_thermal_year y) (span_fits y g.first g.last) span;
-        fit = fit_facts y g.first g.last (and_right (is_thermal_year y) (span_fits y g.first g.last) span);
+        year = and_left (is_thermal_year y) (span_fits y g.days.first g.days.last) span;
+        fit = fit_facts y g.days.first g.days.last (and_right (is_thermal_year y) (span_fits y g.days.first g.days.last) span);
         user = ltb-true _ _ (every_at (field_tests g) 0 fields);
         point = ltb-true _ _ (every_at (field_tests g) 1 fields);
         kind = within 1 3 g.kind (every_at (field_tests g) 2 fields);
@@ -58,7 +58,7 @@ module _ (y : ℕ) (g : Grant) where
   unfolding within_limits
   within_limits_lem w =
       both _ _
-      (both _ _ w.year (span_fits_lem y g.first g.last w.fit))
+      (both _ _ w.year (span_fits_lem y g.days.first g.days.last w.fit))
       (both _ _
       (both _ _ (both _ _ (lt-ltb _ _ w.user) (lt-ltb _ _ w.point)) (is_between 1 3 g.kind w.kind.from w.kind.to))
       (is_between 1 most_amount g.amount w.amount.from w.amount.to))
@@ -68,7 +68,7 @@ module _ (y : ℕ) (g : Grant) where
   days_most w = omega (arith, w.fit.begins, w.fit.ordered, w.fit.ends, (year_facts y w.year).most)
 
   -- its charge can be found
-  pub charge_bounds : within_limits y g ≡ true → (g.first ≤ g.last) × ((g.last ≤ last_day) × ((days_of g ≤ row_length) × (g.amount ≤ most_amount)))
+  pub charge_bounds : within_limits y g ≡ true → (g.days.first ≤ g.days.last) × ((g.days.last ≤ last_day) × ((days_of g ≤ row_length) × (g.amount ≤ most_amount)))
   charge_bounds h =
       let w = limits h in
       (w.fit.ordered, (omega (arith, w.fit.ends, (year_facts y w.year).last), (days_most w, w.amount.to)))

@@ -26,12 +26,12 @@ lines_left r n = leb (r.lines + n) line_count
 
 -- the days of a grant
 abbrev pub days_of : Grant → ℕ
-days_of g = span_days g.first g.last
+days_of g = span_days g.days.first g.days.last
 
 -- an annual grant of an amount on each day of a span
 abbrev pub annual_of : ℕ → ℕ → Span → ℕ → Grant
 annual_of u p days amount =
-    record { user = u; point = p; kind = 1; first = days.first; last = days.last; amount = amount }
+    record { user = u; point = p; kind = 1; days = days; amount = amount }
 
 -- "A charge is amount × days of the span × rate.": at the rate of the point
 abbrev pub charge_at : Point → Grant → ℕ
@@ -50,13 +50,13 @@ with_charge r u c = with_account r u (committed (account_at r.accounts u) c)
 -- "A ledger line has user, point, kind (1 annual, 2 month, 3 day), first day and a signed amount"
 abbrev pub line_of : Grant → Line
 line_of g =
-    record { user = g.user; point = g.point; kind = g.kind; first = g.first; amount = pos g.amount }
+    record { user = g.user; point = g.point; kind = g.kind; first = g.days.first; amount = pos g.amount }
 
 -- "The grant is taken from each of those days, its charge joins the commitment, one line is written."
 unfoldable pub booked : State → Grant → State
 booked s g =
     state (with_lines (with_charge s.register g.user (charge_of s.register g)) (s.register.lines + 1))
-    (taken s.free (entry_of s.register.year g.point g.first) (days_of g) g.amount)
+    (taken s.free (entry_of s.register.year g.point g.days.first) (days_of g) g.amount)
     (with_line s.ledger s.register.lines (line_of g))
 
 -- the user, the point, the kind and the amount of a grant within limits
@@ -70,7 +70,7 @@ field_tests g =
 
 -- a grant whose fields are within limits, its span among them
 unfoldable pub within_limits : ℕ → Grant → Bool
-within_limits y g = span_in_year y g.first g.last && every (field_tests g)
+within_limits y g = span_in_year y g.days.first g.days.last && every (field_tests g)
 
 -- the charge of such a grant; any other has none
 unfoldable pub charge_answer : Register → Grant → Option ℕ

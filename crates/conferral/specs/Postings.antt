@@ -14,7 +14,7 @@ use Rattle.conferral.specs.Bookings.{covers, charge_at, committed, line_of, fiel
 
 -- its days follow each other and are no more than a year has
 abbrev pub days_ordered : Grant → Bool
-days_ordered g = leb g.first g.last && (leb g.last last_day && leb (g.last + 1) (g.first + row_length))
+days_ordered g = leb g.days.first g.days.last && (leb g.days.last last_day && leb (g.days.last + 1) (g.days.first + row_length))
 
 -- a grant with such days and with its other fields within limits, whose charge the account covers and for which a line is left
 unfoldable pub room_for : ℕ → Account → Point → Grant → Bool

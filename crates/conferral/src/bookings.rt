@@ -8,17 +8,14 @@ use calendar::Span;
 use register::{Account, Line, Point, Register};
 use spans::is_span;
 
-// An amount granted to a user at a point, on each day from first to last. The kind is that of its ledger line: 1 annual, 2 month,
-// 3 day. It stays a number: a narrower type would ask more of callers, who learn of any kind whether it is within limits. The two days
-// stand by themselves: a `Span` would make no definition shorter, since the first day alone is that of the line and of the place in
-// the table.
+// An amount granted to a user at a point, on each day of a span. The kind is that of its ledger line. It stays a number: a narrower type
+// would ask more of callers, who learn of any kind whether it is within limits.
 #[derive(Clone, Copy)]
 pub struct Grant {
     pub user: u8,
     pub point: u8,
     pub kind: u8,
-    pub first: u16,
-    pub last: u16,
+    pub days: Span,
     pub amount: u32,
 }
 
@@ -45,17 +42,9 @@ impl Grant {
             user,
             point,
             kind: ANNUAL,
-            first: days.first,
-            last: days.last,
+            days,
             amount,
         }
-    }
-
-    // How many days it has.
-    fn days(self) -> usize
-        ensures { result ≡ days_of self }
-    {
-        (self.last as usize + 1).saturating_sub(self.first as usize)
     }
 
     // Whether user, point, kind and amount are within limits.
@@ -73,16 +62,16 @@ impl Grant {
     fn is_within_limits(self, year: u16) -> bool
         ensures { result ≡ within_limits year self }
     {
-        is_span(year, self.first, self.last) & self.has_fields_within_limits()
+        is_span(year, self.days) & self.has_fields_within_limits()
     }
 
     // Whether the days follow each other and are no more than a year has.
     fn is_ordered(self) -> bool
         ensures { result ≡ days_ordered self }
     {
-        (self.first <= self.last)
-            & ((self.last <= days::LAST_DAY)
-                & (self.last as usize + 1 <= self.first as usize + register::ROW))
+        (self.days.first <= self.days.last)
+            & ((self.days.last <= days::LAST_DAY)
+                & (self.days.last as usize + 1 <= self.days.first as usize + register::ROW))
     }
 
     // The charge at a point.
@@ -91,7 +80,7 @@ impl Grant {
         requires amount { self.amount ≤ most_amount }
         ensures { result ≡ charge_at p self }
     {
-        register::charge_of(self.amount, self.days() as u16, p.rate)
+        register::charge_of(self.amount, self.days.days() as u16, p.rate)
     }
 
     // The ledger line. No `From`: only an amount within limits is one of a line, which is signed.
@@ -103,7 +92,7 @@ impl Grant {
             user: self.user as u32,
             point: self.point as u32,
             kind: self.kind as u32,
-            first: self.first as u32,
+            first: self.days.first as u32,
             amount: self.amount as i32,
         }
     }
@@ -191,7 +180,7 @@ pub fn post(lines: &mut u16, a: &mut Account, p: Point, ledger: &mut [u32], g: G
 pub fn book(mut r: Register, free: &mut [u32], ledger: &mut [u32], g: Grant) -> Register
     ensures { state result free.new ledger.new ≡ book_after (state r free.old ledger.old) g }
 {
-    if !is_span(r.year, g.first, g.last) {
+    if !is_span(r.year, g.days) {
         return r;
     }
     let user = g.user as usize % register::USERS;
@@ -199,7 +188,7 @@ pub fn book(mut r: Register, free: &mut [u32], ledger: &mut [u32], g: Grant) -> 
     let mut lines = r.lines;
     let amount = post(&mut lines, &mut r.accounts[user], p, ledger, g);
     r.lines = lines;
-    let place = register::entry_in(r.year, g.point, g.first);
-    register::take_free(free, place, g.days(), amount);
+    let place = register::entry_in(r.year, g.point, g.days.first);
+    register::take_free(free, place, g.days.days(), amount);
     r
 }

@@ -37,7 +37,7 @@ use Rattle.expected.proofs.HeldSteps.{held_grant}
 
 -- a grant that is booked
 grant_kept : (s : State) (k : Reckoning) (g : Grant) (t : State) → Kept s k → BookedIn s g t → LimitFacts s.register.year g
-    → 0 < (point_at s.register.points g.point).kind → Kept t (grant_to k g.user g.point g.first g.last g.amount)
+    → 0 < (point_at s.register.points g.point).kind → Kept t (grant_to k g.user g.point g.days.first g.days.last g.amount)
 grant_kept s k g t w b fits opened =
     record {
       agrees = agree_grant s k g t w.agrees b opened;

@@ -37,8 +37,8 @@ module _ (s : State) (k : Reckoning) (g : Grant) (t : State) (a : Agree s k) (b 
       record {
         user = g.user;
         point = g.point;
-        first = g.first;
-        last = g.last;
+        first = g.days.first;
+        last = g.days.last;
         amount = g.amount;
         charged = charge g.amount (days_of g) (k.rate g.point);
       }
@@ -70,8 +70,8 @@ module _ (s : State) (k : Reckoning) (g : Grant) (t : State) (a : Agree s k) (b 
     where
       go : (e : Bool) → grant_covers entry p d ≡ e → cond e g.amount 0 + granted_on k p d + free_on t p d ≡ k.total p
       go true e =
-          let same = eqb-true _ _ (and_left (eqb g.point p) (between g.first g.last d) e) in
-          let w = within g.first g.last d (and_right (eqb g.point p) (between g.first g.last d) e) in
+          let same = eqb-true _ _ (and_left (eqb g.point p) (between g.days.first g.days.last d) e) in
+          let w = within g.days.first g.days.last d (and_right (eqb g.point p) (between g.days.first g.days.last d) e) in
           let now : free_on t p d + g.amount ≡ free_on s p d =
           ap (λ (q : ℕ). free_on t q d + g.amount) (sym same) ∙ b.day d w.from w.to ∙ ap (λ (q : ℕ). free_on s q d) same in
           omega (arith, now, a.sums p d open-here i)
@@ -85,11 +85,11 @@ module _ (s : State) (k : Reckoning) (g : Grant) (t : State) (a : Agree s k) (b 
     where
       go : (e : Bool) → grant_covers entry p d ≡ e → cond e g.amount 0 + granted_on k p d ≡ 0
       go true e =
-          let same = eqb-true _ _ (and_left (eqb g.point p) (between g.first g.last d) e) in
+          let same = eqb-true _ _ (and_left (eqb g.point p) (between g.days.first g.days.last d) e) in
           absurd (true≢false (sym granted_open ∙ ap k.is_open same ∙ closed))
       go false e = omega (arith, a.none p d closed)
 
-  pub agree_grant : Agree t (grant_to k g.user g.point g.first g.last g.amount)
+  pub agree_grant : Agree t (grant_to k g.user g.point g.days.first g.days.last g.amount)
   unfolding grant_to
   agree_grant =
       record {

@@ -44,7 +44,7 @@ held_place s k u g h = h
 
 -- ---- a grant that is booked
 module _ (s : State) (k : Reckoning) (g : Grant) (t : State) (b : BookedIn s g t) (w : LimitFacts s.register.year g) (backed : Backed s) (h : HeldBy s k) where
-  pub held_grant : HeldBy t (grant_to k g.user g.point g.first g.last g.amount)
+  pub held_grant : HeldBy t (grant_to k g.user g.point g.days.first g.days.last g.amount)
   unfolding grant_to
   held_grant u p d = omega (arith, holding_now s g t b w backed u p d, h u p d)
 

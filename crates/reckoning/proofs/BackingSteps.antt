@@ -173,9 +173,9 @@ module _ (s : State) (g : Grant) (t : State) (b : BookedIn s g t) (w : LimitFact
 
   -- the grant is the user's at the point, and covers the day
   abbrev covered : ℕ → ℕ → ℕ → Bool
-  covered u p d = is_his u p (line_of g) && between g.first g.last d
+  covered u p d = is_his u p (line_of g) && between g.days.first g.days.last d
 
-  last_day_lem : line_last y (line_of g) ≡ g.last
+  last_day_lem : line_last y (line_of g) ≡ g.days.last
   last_day_lem = sym (ap₂ line_last b.year b.line) ∙ b.line_ends
 
   old_lines : (u p d : ℕ) → signed_sum n (part_at y t.ledger u p d) ≡ holds s u p d
@@ -186,7 +186,7 @@ module _ (s : State) (g : Grant) (t : State) (b : BookedIn s g t) (w : LimitFact
   new_line : (u p d : ℕ) → part_at y t.ledger u p d n ≡ pos (cond (covered u p d) g.amount 0)
   new_line u p d =
       ap (part_of y u p d) b.line
-      ∙ ap (λ (e : ℕ). cond (is_his u p (line_of g) && between g.first e d) (pos g.amount) (pos 0)) last_day_lem
+      ∙ ap (λ (e : ℕ). cond (is_his u p (line_of g) && between g.days.first e d) (pos g.amount) (pos 0)) last_day_lem
       ∙ signed_choice (covered u p d) g.amount
 
   -- "one line is written": what is held grows by it
@@ -200,19 +200,19 @@ module _ (s : State) (g : Grant) (t : State) (b : BookedIn s g t) (w : LimitFact
   pub holding_now : (u p d : ℕ) → holding t u p d ≡ holding s u p d + cond (covered u p d) g.amount 0
   holding_now u p d = ap mag (grown u p d)
 
-  more : (d : ℕ) → g.first ≤ d → d ≤ g.last → holding t g.user g.point d ≡ holding s g.user g.point d + g.amount
+  more : (d : ℕ) → g.days.first ≤ d → d ≤ g.days.last → holding t g.user g.point d ≡ holding s g.user g.point d + g.amount
   more d from to =
       let c = cond-true (covered g.user g.point d) g.amount 0
-      (both _ _ (both _ _ (eq-eqb g.user g.user refl) (eq-eqb g.point g.point refl)) (is_between g.first g.last d from to)) in
+      (both _ _ (both _ _ (eq-eqb g.user g.user refl) (eq-eqb g.point g.point refl)) (is_between g.days.first g.days.last d from to)) in
       omega (arith, holding_now g.user g.point d, c)
 
-  same : (u p d : ℕ) → (u ≡ g.user → p ≡ g.point → g.first ≤ d → d ≤ g.last → ⊥) → holding t u p d ≡ holding s u p d
+  same : (u p d : ℕ) → (u ≡ g.user → p ≡ g.point → g.days.first ≤ d → d ≤ g.days.last → ⊥) → holding t u p d ≡ holding s u p d
   same u p d out = go (covered u p d) refl
     where
       go : (x : Bool) → covered u p d ≡ x → holding t u p d ≡ holding s u p d
       go true e =
-          let his = and_left (is_his u p (line_of g)) (between g.first g.last d) e in
-          let v = within g.first g.last d (and_right (is_his u p (line_of g)) (between g.first g.last d) e) in
+          let his = and_left (is_his u p (line_of g)) (between g.days.first g.days.last d) e in
+          let v = within g.days.first g.days.last d (and_right (is_his u p (line_of g)) (between g.days.first g.days.last d) e) in
           absurd (out (sym (eqb-true _ _ (and_left (eqb g.user u) (eqb g.point p) his))) (sym (eqb-true _ _ (and_right (eqb g.user u) (eqb g.point p) his))) v.from v.to)
       go false e = omega (arith, holding_now u p d, cond-false (covered u p d) g.amount 0 e)
 
@@ -222,7 +222,7 @@ module _ (s : State) (g : Grant) (t : State) (b : BookedIn s g t) (w : LimitFact
     where
       grew : charge_in_year y s.register.points (holding t g.user) ≡ charge_in_year y s.register.points (holding s g.user) + grant_charge s.register g
       grew =
-          held_more (thermal_first y) (year_days y) (rate_of s.register.points) g.point g.first g.last g.amount w.point w.fit.begins w.fit.ordered (in_days y g.first g.last w.fit)
+          held_more (thermal_first y) (year_days y) (rate_of s.register.points) g.point g.days.first g.days.last g.amount w.point w.fit.begins w.fit.ordered (in_days y g.days.first g.days.last w.fit)
           (holding s g.user) (holding t g.user) more (λ p d out. same g.user p d (λ e. out))
 
       go : Dec (u ≡ g.user) → (account_at t.register.accounts u).commitment ≡ charge_in_year y s.register.points (holding t u)

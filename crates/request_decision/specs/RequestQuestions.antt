@@ -56,8 +56,7 @@ grant_from q days amount =
       user = q.user;
       point = q.point;
       kind = kind_of q.product;
-      first = days.first;
-      last = days.last;
+      days = days;
       amount = amount;
     }
 

@@ -28,8 +28,7 @@ fn grant_from(q: Request, days: Span, amount: u32) -> Grant
         user: q.user,
         point: q.point,
         kind: q.product.kind(),
-        first: days.first,
-        last: days.last,
+        days,
         amount,
     }
 }

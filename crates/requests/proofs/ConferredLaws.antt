@@ -47,7 +47,7 @@ month_line y a (Month m) h = opens_month_lem y m h
 month_line y a (Day d) h = refl
 
 -- "its last day is implied": that of the product
-line_ends : (y a : ℕ) (k : Product) (g : Grant) → is_thermal_year y ≡ true → month_ok k ≡ true → g.kind ≡ kind_of k → g.first ≡ first_of y a k → line_last y (line_of g) ≡ last_of y a k
+line_ends : (y a : ℕ) (k : Product) (g : Grant) → is_thermal_year y ≡ true → month_ok k ≡ true → g.kind ≡ kind_of k → g.days.first ≡ first_of y a k → line_last y (line_of g) ≡ last_of y a k
 line_ends y a Annual g t h e f = annual_last_lem y (line_of g) e
 line_ends y a (Month m) g t h e f = month_last y m (line_of g) (record { year = thermal_year y t; month = within 1 12 m h }) e f
 line_ends y a (Day d) g t h e f = day_last y (line_of g) e ∙ f

@@ -2,7 +2,7 @@
 -- Assumes nothing.
 use Rattle.std.specs.Prelude.{ℕ, Bool, not, ◌&&◌, List, [], ◌∷◌, ltb, eqb, get_or, length}
 use Rattle.days.specs.Days.{between}
-use Rattle.calendar.specs.ThermalYears.{thermal_first, thermal_last}
+use Rattle.calendar.specs.ThermalYears.{span, thermal_first, thermal_last}
 use Rattle.parts.specs.declared.accounts.Account.{Account}
 use Rattle.parts.specs.declared.registers.Register.{Register}
 use Rattle.parts.specs.Limits.{user_count, most_amount}
@@ -40,7 +40,7 @@ asked_of b i = get_or b.asked i 0
 -- "an annual grant from 1 October" of an amount to a user, which covers the whole year; and to the user of line i
 abbrev pub grant_for : ℕ → ℕ → ℕ → ℕ → Grant
 grant_for y u p amount =
-    record { user = u; point = p; kind = 1; first = thermal_first y; last = thermal_last y; amount = amount }
+    record { user = u; point = p; kind = 1; days = span (thermal_first y) (thermal_last y); amount = amount }
 
 abbrev pub grant_of : Register → Batch → ℕ → ℕ → Grant
 grant_of r b i amount = grant_for r.year (user_of b i) b.point amount

@@ -30,15 +30,14 @@ pub fn annual_span(year: u16, arrival: u16) -> Option<Span>
     None
 }
 
-// Whether the days from first to last are a span of a thermal year. Two numbers, since they are two fields of a grant where this is
-// asked.
+// Whether a span lies in a thermal year and has a day left.
 #[tactic(auto, using(crate::proofs::SpanLaws::fits_by))]
-pub fn is_span(year: u16, first: u16, last: u16) -> bool
-    ensures { result ≡ span_in_year year first last }
+pub fn is_span(year: u16, days: Span) -> bool
+    ensures { result ≡ span_in_year year days.first days.last }
 {
-    calendar::thermal_year(year).is_some_and(|days| (days.first <= first)
-        & (first <= last)
-        & (last <= days.last))
+    calendar::thermal_year(year).is_some_and(|whole| (whole.first <= days.first)
+        & (days.first <= days.last)
+        & (days.last <= whole.last))
 }
 
 // Whether the calendar says that an arrival is in time.
