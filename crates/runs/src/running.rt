@@ -22,7 +22,8 @@ pub const INPUT: usize = MOST_RECORDS * records::RECORD;
 // A buffer of this length has room for the lines of any input.
 pub const BUFFER: usize = MOST_RECORDS * printing::LINE;
 
-// The register and the next place in the buffer. The buffer is lent whole and the place goes beside it, as `put_line` takes them.
+// The register and the next place in the buffer, which go from record to record. The buffer is lent whole and the place goes beside it,
+// as `put_line` takes them.
 #[derive(Drop)]
 struct Progress {
     register: Register,
@@ -59,32 +60,31 @@ fn make_call(r: Register, free: &mut [u32], ledger: &mut [u32], d: Option<Change
     }
 }
 
-// One record: its call is made, and its line is written from a place on.
+// One record: its call is made, and its line is written from the next place on.
 #[tactic(auto, using(crate::proofs::RunLaws::line_put), unfolding(crate::specs::Steps::left_at, crate::specs::Steps::answer_at))]
 fn take_record(
     input: &[u8],
     k: usize,
-    r: Register,
+    so_far: Progress,
     free: &mut [u32],
     ledger: &mut [u32],
     out: &mut [u8],
-    place: usize,
 ) -> Progress
-    requires { (k < 2000) × (24 * k ≤ length input.now) × (place + 33 ≤ length out.old) }
+    requires { (k < 2000) × (24 * k ≤ length input.now) × (so_far.place + 33 ≤ length out.old) }
     ensures state { state result.register free.new ledger.new ≡ left_at input.now k
-        (state r free.old ledger.old) }
-    ensures place { result.place ≡ place + length (line_of (k + 1) (answer_at input.now k
-        (state r free.old ledger.old))) }
-    ensures bytes { out.new ≡ sets out.old place
-        (line_of (k + 1) (answer_at input.now k (state r free.old ledger.old))) }
-    ensures bound { result.place ≤ place + 33 }
+        (state so_far.register free.old ledger.old) }
+    ensures place { result.place ≡ so_far.place + length (line_of (k + 1) (answer_at input.now k
+        (state so_far.register free.old ledger.old))) }
+    ensures bytes { out.new ≡ sets out.old so_far.place
+        (line_of (k + 1) (answer_at input.now k (state so_far.register free.old ledger.old))) }
+    ensures bound { result.place ≤ so_far.place + 33 }
 {
     let d = record_at(input, k);
-    let made = make_call(r, free, ledger, d);
-    let next = printing::put_line((k + 1) as u32, made.number, made.amount, out, place);
+    let made = make_call(so_far.register, free, ledger, d);
+    let place = printing::put_line((k + 1) as u32, made.number, made.amount, out, so_far.place);
     Progress {
         register: made.register,
-        place: next,
+        place,
     }
 }
 
@@ -94,7 +94,7 @@ fn take_record(
 fn take_records(
     input: &[u8],
     count: usize,
-    mut r: Register,
+    r: Register,
     free: &mut [u32],
     ledger: &mut [u32],
     out: &mut [u8],
@@ -108,13 +108,14 @@ fn take_records(
         (decoded_in input.now)) ++ drop result.place out.old }
     ensures bound { result.place ≤ length out.old }
 {
-    let mut place: usize = 0;
+    let mut so_far = Progress {
+        register: r,
+        place: 0,
+    };
     for k in 0..count {
-        let after = take_record(input, k, r, free, ledger, out, place);
-        r = after.register;
-        place = after.place;
+        so_far = take_record(input, k, so_far, free, ledger, out);
     }
-    Progress { register: r, place }
+    so_far
 }
 
 // Starts a fresh register of 2000 in the two lists, makes the calls of the input's records, at most 2,000, in order, and writes a line
