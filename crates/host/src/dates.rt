@@ -3,6 +3,7 @@ ghost use Rattle.std.specs.Prelude.{◌≡◌};
 ghost use Rattle.days.specs.Answers.{next_date_answer, move_number, moved_date};
 
 use days::Date;
+use parts::Refusal;
 
 // Moves a date on by one gas-day. The last one of the calendar, or one that does not exist there, is left.
 pub fn ylgrandi_next_day(date: &mut Date) -> u8
@@ -14,6 +15,6 @@ pub fn ylgrandi_next_day(date: &mut Date) -> u8
             *date = later;
             0
         }
-        None => 2,
+        None => u8::from(Refusal::OutOfLimits),
     }
 }

@@ -26,8 +26,5 @@ pub fn ylgrandi_in_order(r: Register, free: &[u32], ledger: &[u32]) -> bool
 pub fn ylgrandi_first_short_day(year: u16, lines: u16, ledger: &[u32], h: Holding) -> u32
     ensures { result ≡ short_day (held_answer year lines ledger.now h) }
 {
-    match holdings::first_short_day(year, lines, ledger, h) {
-        None => NO_DAY,
-        Some(day) => u32::from(day),
-    }
+    holdings::first_short_day(year, lines, ledger, h).map_or(NO_DAY, u32::from)
 }
