@@ -7,7 +7,7 @@ ghost use Rattle.holdings.specs.Holdings.{held_answer, short_day};
 use holdings::Holding;
 use register::{Register, View};
 
-// No gas-day has this number.
+// No gas-day has this number. It stands for `None`: the types here are those of the C interface, which has no `Option`.
 const NO_DAY: u32 = 65_536;
 
 // Question 1: is the register in order?

@@ -54,6 +54,9 @@ impl From<Refusal> for u8 {
 //
 // What a call that takes the register gives back: the register as it then is, and the answer, an amount or nothing more than that
 // the call is accepted.
+//
+// The six changing calls share no frame. One that takes what a call does as a closure could not say that a refusal leaves the lists that
+// the closure holds (tried at `open_point`), and one that takes the lists would need them to write, where some calls only read.
 #[derive(Drop)]
 pub struct Answered<T> {
     pub register: Register,
