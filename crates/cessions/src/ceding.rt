@@ -31,7 +31,7 @@ fn annual_line(user: u8, point: u8, first: u16, amount: i32) -> Line
     Line {
         user: user as u32,
         point: point as u32,
-        kind: conferral::ANNUAL as u32,
+        kind: register::ANNUAL as u32,
         first: first as u32,
         amount,
     }

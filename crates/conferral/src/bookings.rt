@@ -5,7 +5,7 @@ ghost use Rattle.conferral.specs.Bookings.{covers, lines_left, charge_answer, ch
 ghost use Rattle.conferral.specs.Postings.{room_for, posting, post_after};
 
 use calendar::Span;
-use register::{Account, Line, Point, Register};
+use register::{ANNUAL, Account, DAY, Line, Point, Register};
 use spans::is_span;
 
 // An amount granted to a user at a point, on each day of a span. The kind is that of its ledger line. It stays a number: a narrower type
@@ -18,13 +18,6 @@ pub struct Grant {
     pub days: Span,
     pub amount: u32,
 }
-
-// The kinds of a grant and of its ledger line.
-pub const ANNUAL: u8 = 1;
-
-pub const MONTH: u8 = 2;
-
-pub const DAY: u8 = 3;
 
 impl Grant {
     ghost use Rattle.std.specs.Prelude.{◌≤◌};

@@ -6,7 +6,5 @@
 
 mod bookings;
 
-pub use bookings::{
-    ANNUAL, DAY, Grant, MONTH, book, charge_within, covers_charge, is_covered, lines_left, post,
-};
+pub use bookings::{Grant, book, charge_within, covers_charge, is_covered, lines_left, post};
 pub use spans::{annual_span, is_arrival, is_timely};

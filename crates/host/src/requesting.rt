@@ -8,7 +8,8 @@ use applied::Applied;
 use register::Register;
 use requests::{Product, Request};
 
-// What a kind names, with the month or the gas-day that it has. Another kind is the month 0, which is out of limits.
+// What a kind names, with the month or the gas-day that it has. A kind that there is not has to reach the call, since question 1 is asked
+// before question 2: it is the month 0, which question 2 refuses.
 #[tactic(auto, unfolding(crate::specs::Requests::product_of))]
 fn product_of(kind: u8, month: u8, day: u16) -> Product
     ensures { result ≡ product_of kind month day }

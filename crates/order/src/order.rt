@@ -14,7 +14,8 @@ use amounts::{capacity_on, row_of};
 use calendar::Span;
 use ledger::{Line, line_at};
 use parts::{
-    Account, LEDGER, LINE, LINES, POINTS, Point, ROW, Register, TABLE, USERS, View, is_amount,
+    ANNUAL, Account, DAY, LEDGER, LINE, LINES, MONTH, MOST_AMOUNT, POINTS, Point, ROW, Register,
+    TABLE, USERS, View,
 };
 
 // The entry of a row that a year of 365 days has none for.
@@ -89,7 +90,7 @@ fn month_marks(year: u16, span: Span) -> [bool; ROW]
 fn amount_in_order(a: i32) -> bool
     ensures { result ≡ amount_ok a }
 {
-    is_amount(a.unsigned_abs() as u64)
+    (a != 0) & (a.unsigned_abs() <= MOST_AMOUNT)
 }
 
 // What a line says by itself: its user and its point are there, its kind, its first day in the year, its amount. User, point and first
@@ -99,7 +100,7 @@ fn fields_in_order(l: Line, span: Span) -> bool
 {
     let amount = amount_in_order(l.amount);
     ((l.user < USERS as u32) & (l.point < POINTS as u32))
-        & (((1 <= l.kind) & (l.kind <= 3))
+        & (((ANNUAL as u32 <= l.kind) & (l.kind <= DAY as u32))
             & ((span.first as u32 <= l.first) & (l.first <= span.last as u32))
             & amount)
 }
@@ -108,7 +109,7 @@ fn fields_in_order(l: Line, span: Span) -> bool
 fn named_in_order(l: Line, a: Account, p: Point, opens: bool) -> bool
     ensures { result ≡ every (named_tests a p opens l) }
 {
-    a.is_on_file() & p.is_open() & ((l.kind != 2) | opens)
+    a.is_on_file() & p.is_open() & ((l.kind != MONTH as u32) | opens)
 }
 
 // Each used line, by index: the ledger is one lent list with five numbers for each line, and `line_at` reads those of the i-th. A line is

@@ -10,6 +10,13 @@ pub const USERS: usize = 64;
 
 pub const LINES: usize = 2_048;
 
+// The kinds of a request and of its ledger line.
+pub const ANNUAL: u8 = 1;
+
+pub const MONTH: u8 = 2;
+
+pub const DAY: u8 = 3;
+
 // Free amounts of one point and of all points, numbers of one ledger line and of all lines.
 pub const ROW: usize = 366;
 
@@ -19,12 +26,8 @@ pub const LINE: usize = 5;
 
 pub const LEDGER: usize = LINES * LINE;
 
-// The largest amount or total, and the limits of the signed amount of a ledger line.
+// The largest amount or total.
 pub const MOST_AMOUNT: u32 = 9_999_999;
-
-pub const MOST_SIGNED: i32 = MOST_AMOUNT as i32;
-
-pub const LEAST_SIGNED: i32 = -MOST_SIGNED;
 
 // The largest rate and the largest guarantee.
 pub const MOST_RATE: u32 = 999_999;

@@ -33,9 +33,9 @@ impl Product {
         ensures { result ≡ kind_of self }
     {
         match self {
-            Product::Annual => conferral::ANNUAL,
-            Product::Month(_) => conferral::MONTH,
-            Product::Day(_) => conferral::DAY,
+            Product::Annual => parts::ANNUAL,
+            Product::Month(_) => parts::MONTH,
+            Product::Day(_) => parts::DAY,
         }
     }
 

@@ -78,7 +78,7 @@ fn request_for(s: &[u8; RECORD], product: Product) -> Change
     })
 }
 
-// A request of a kind that there is not is no call.
+// A request of a kind that there is not is no call. A `match` of its own, beside that of a host's request: only what its kind has is read.
 #[tactic(auto, using(crate::proofs::CallLaws::kinds))]
 fn request_in(s: &[u8; RECORD]) -> Option<Change>
     ensures { result ≡ request_in s.now }

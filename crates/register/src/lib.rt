@@ -13,9 +13,9 @@ pub use fresh::fresh_register;
 pub use ledger::{Line, line_at, write_line};
 pub use order::in_order;
 pub use parts::{
-    Account, Answered, LEDGER, LINE, LINES, MOST_AMOUNT, MOST_GUARANTEE, MOST_RATE, MOST_WORD,
-    POINTS, Point, ROW, Refusal, Register, TABLE, USERS, View, answer_amount, answer_number,
-    can_open, charge_of, is_amount, names_point, names_user,
+    ANNUAL, Account, Answered, DAY, LEDGER, LINE, LINES, MONTH, MOST_AMOUNT, MOST_GUARANTEE,
+    MOST_RATE, MOST_WORD, POINTS, Point, ROW, Refusal, Register, TABLE, USERS, View, answer_amount,
+    answer_number, can_open, charge_of, is_amount, names_point, names_user,
 };
 pub use reports::report_free;
 pub use tables::{clear, free_row, free_table, least_free, take_free};
