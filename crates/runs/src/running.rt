@@ -5,7 +5,7 @@ ghost use Rattle.parts.specs.Registers.{state};
 ghost use Rattle.parts.specs.Answers.{number_of_answer, amount_of_answer};
 ghost use Rattle.records.specs.Records.{decoded};
 ghost use Rattle.runs.specs.Runs.{decoded_in, answer_to, left_by, answers_to, line_of, lines_from, run_number, run_leaves, run_bytes, run_length, Accounted};
-ghost use Rattle.runs.specs.Steps.{count_in, record_at, answer_at, left_at, left_by_all};
+ghost use Rattle.runs.specs.Steps.{count_in, left_by_all};
 
 use history::{Applied, Change};
 use parts::{Answered, Refusal, Register};
@@ -37,15 +37,6 @@ fn record_count(bytes: usize) -> usize
     bytes.div_ceil(records::RECORD).min(MOST_RECORDS)
 }
 
-// What the k-th record is, counted from 0.
-#[tactic(auto, using(crate::proofs::RecordLaws::record_found))]
-fn record_at(input: &[u8], k: usize) -> Option<Change>
-    requires { (k < 2000) × (24 * k ≤ length input.now) }
-    ensures { result ≡ decoded (record_at input.now k) }
-{
-    records::decode(&input[records::RECORD * k..])
-}
-
 // Makes the call of a record. What is no call is answered 2, as what is out of limits. No record holds a batch, so the lists of one are
 // empty.
 fn make_call(r: Register, free: &mut [u32], ledger: &mut [u32], d: Option<Change>) -> Applied
@@ -60,26 +51,26 @@ fn make_call(r: Register, free: &mut [u32], ledger: &mut [u32], d: Option<Change
     }
 }
 
-// One record: its call is made, and its line is written from the next place on.
-#[tactic(auto, using(crate::proofs::RunLaws::line_put), unfolding(crate::specs::Steps::left_at, crate::specs::Steps::answer_at))]
+// One record, the k-th from 0: its call is made, and its line is written from the next place on.
+#[tactic(auto, using(crate::proofs::RunLaws::line_put))]
 fn take_record(
-    input: &[u8],
+    chunk: &[u8],
     k: usize,
     so_far: Progress,
     free: &mut [u32],
     ledger: &mut [u32],
     out: &mut [u8],
 ) -> Progress
-    requires { (k < 2000) × (24 * k ≤ length input.now) × (so_far.place + 33 ≤ length out.old) }
-    ensures state { state result.register free.new ledger.new ≡ left_at input.now k
-        (state so_far.register free.old ledger.old) }
-    ensures place { result.place ≡ so_far.place + length (line_of (k + 1) (answer_at input.now k
-        (state so_far.register free.old ledger.old))) }
-    ensures bytes { out.new ≡ sets out.old so_far.place
-        (line_of (k + 1) (answer_at input.now k (state so_far.register free.old ledger.old))) }
+    requires { (k < 2000) × (so_far.place + 33 ≤ length out.old) }
+    ensures state { state result.register free.new ledger.new ≡ left_by
+        (state so_far.register free.old ledger.old) (decoded chunk.now) }
+    ensures place { result.place ≡ so_far.place + length (line_of (k + 1) (answer_to
+        (state so_far.register free.old ledger.old) (decoded chunk.now))) }
+    ensures bytes { out.new ≡ sets out.old so_far.place (line_of (k + 1) (answer_to
+        (state so_far.register free.old ledger.old) (decoded chunk.now))) }
     ensures bound { result.place ≤ so_far.place + 33 }
 {
-    let d = record_at(input, k);
+    let d = records::decode(chunk);
     let made = make_call(so_far.register, free, ledger, d);
     let place = printing::put_line((k + 1) as u32, made.number, made.amount, out, so_far.place);
     Progress {
@@ -88,18 +79,15 @@ fn take_record(
     }
 }
 
-// All records, in order. By number, since the count is known from the room that was asked for, and the line of a record has its number:
-// with `chunks`, `take` and `enumerate` both would be said once more.
-#[tactic(auto, using(crate::proofs::RunLaws::runs_on))]
+// All records, in order.
 fn take_records(
     input: &[u8],
-    count: usize,
     r: Register,
     free: &mut [u32],
     ledger: &mut [u32],
     out: &mut [u8],
 ) -> Progress
-    requires { (count ≡ count_in (length input.now)) × (count ≤ 2000) × (33 * count ≤ length out.old) }
+    requires { 33 * count_in (length input.now) ≤ length out.old }
     ensures state { state result.register free.new ledger.new ≡ left_by_all
         (state r free.old ledger.old) (decoded_in input.now) }
     ensures place { result.place ≡ length (lines_from 1 (answers_to (state r free.old ledger.old)
@@ -112,8 +100,8 @@ fn take_records(
         register: r,
         place: 0,
     };
-    for k in 0..count {
-        so_far = take_record(input, k, so_far, free, ledger, out);
+    for (k, chunk) in input.chunks(records::RECORD).take(MOST_RECORDS).enumerate() {
+        so_far = take_record(chunk, k, so_far, free, ledger, out);
     }
     so_far
 }
@@ -140,7 +128,7 @@ pub fn run(input: &[u8], free: &mut [u32], ledger: &mut [u32], out: &mut [u8]) -
     let fresh = register::fresh_register(FIRST_YEAR, free, ledger);
     match fresh.answer {
         Ok(()) => {
-            let after = take_records(input, count, fresh.register, free, ledger, out);
+            let after = take_records(input, fresh.register, free, ledger, out);
             Answered {
                 register: after.register,
                 answer: Ok(after.place),
