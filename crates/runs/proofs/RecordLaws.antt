@@ -26,7 +26,7 @@ unfolding records_of
 next_record most n [] e h = absurd (not-suc-le-zero h)
 next_record most n (b ∷ bytes) e h = let more : most ≡ suc n = omega (arith, e) in rw more
 
--- 24 bytes, or as many as there are, off the front
+-- the bytes of `chunks`: 24 off the front, or as many as there are
 cut : (chunk rest : List ℕ) → length chunk ≡ min 24 (length (chunk ++ rest)) → (take 24 (chunk ++ rest) ≡ chunk) × (drop 24 (chunk ++ rest) ≡ rest)
 cut chunk [] e = (
   take_all 24 (chunk ++ []) (omega (arith, e, length-append chunk [])) ∙ append-nil chunk,
@@ -36,16 +36,17 @@ cut chunk (b ∷ rest) e =
     let whole : length chunk ≡ 24 = omega (arith, e, length-append chunk (b ∷ rest)) in
     (take_at chunk (b ∷ rest) 24 whole, drop_at chunk (b ∷ rest) 24 whole)
 
-pub record_off : (most n : ℕ) (bytes chunk rest : List ℕ) → most ≡ n + 1 → bytes ≡ chunk ++ rest → length chunk ≡ min 24 (length bytes) → 0 < length bytes
+-- what is left is a record, and what is left behind it
+pub rest_next : (most n : ℕ) (bytes chunk rest : List ℕ) → most ≡ n + 1 → bytes ≡ chunk ++ rest → length chunk ≡ min 24 (length bytes) → 0 < length bytes
     → records_of most bytes ≡ chunk ∷ records_of n rest
-record_off most n bytes chunk rest m e l h =
+rest_next most n bytes chunk rest m e l h =
     let off = cut chunk rest (l ∙ ap (λ (b : List ℕ). min 24 (length b)) e) in
     next_record most n bytes m h
     ∙ (ap (λ (b : List ℕ). take 24 b ∷ records_of n (drop 24 b)) e
     ∙ rw (off.0, off.1))
 
--- there is none
-pub no_record : (most : ℕ) (bytes : List ℕ) → (0 < most → length bytes ≡ 0) → records_of most bytes ≡ []
+-- nothing is left
+pub rest_none : (most : ℕ) (bytes : List ℕ) → (0 < most → length bytes ≡ 0) → records_of most bytes ≡ []
 unfolding records_of
-no_record zero bytes e = refl
-no_record (suc most) bytes e = let none : bytes ≡ [] = nil_from_length bytes (e (omega arith)) in rw none
+rest_none zero bytes e = refl
+rest_none (suc most) bytes e = let none : bytes ≡ [] = nil_from_length bytes (e (omega arith)) in rw none

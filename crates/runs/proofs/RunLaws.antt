@@ -14,7 +14,7 @@ use Rattle.printing.proofs.WritingLaws.{sets_append, place_put, bytes_put}
 use Rattle.records.specs.Records.{decoded}
 use Rattle.runs.specs.Runs.{records_of, decoded_all, decoded_in, answer_to, left_by, answers_to, line_of, lines_from}
 use Rattle.runs.specs.Steps.{count_in, left_by_all}
-use Rattle.runs.proofs.RecordLaws.{record_off, no_record}
+use Rattle.runs.proofs.RecordLaws.{rest_next, rest_none}
 
 -- after k records, from the register and the lists s₀ and the buffer o₀, there are s and o, and the next place is p; what is left of the
 -- input are the records of some bytes, at most so many
@@ -58,7 +58,7 @@ running_more input s₀ o₀ chunk {k} {k'} {j} {most} {most'} {size} {size'} {r
     let line : List ℕ = line_of (k + 1) (answer_to s (decoded chunk)) in
     let as_numbered : line_of (j + 1) (answer_to s (decoded chunk)) ≡ line = ap (λ (n : ℕ). line_of (n + 1) (answer_to s (decoded chunk))) ej in
     let short : length chunk ≡ min 24 (length rest) = el ∙ ap (λ (n : ℕ). min n (length rest)) r.by in
-    let next : records_of most rest ≡ chunk ∷ records_of most' rest' = record_off most most' rest chunk rest' (sym em) er short h in
+    let next : records_of most rest ≡ chunk ∷ records_of most' rest' = rest_next most most' rest chunk rest' (sym em) er short h in
     let all : length rest ≡ length chunk + length rest' = ap length er ∙ length-append chunk rest' in record {
       by = ez ∙ r.by;
       counted = omega (arith, r.counted, ek, em, short, all, h);
@@ -80,7 +80,7 @@ module _ (input : List ℕ) (s₀ : State) (o₀ : List ℕ) {k most size : ℕ}
     (e : 0 < most → length rest ≡ 0) where
   none : decoded_all (records_of most rest) ≡ []
   unfolding decoded_all
-  none = ap decoded_all (no_record most rest e)
+  none = ap decoded_all (rest_none most rest e)
 
   pub ran_left : s ≡ left_by_all s₀ (decoded_in input)
   unfolding left_by_all
