@@ -8,7 +8,7 @@ use native.Mathlib.Nat.{zero-add}
 use native.Mathlib.Decide.{dec_le, dec_lt}
 use native.Mathlib.Omega.{arith}
 use lib.Dec.{ltb}
-use lib.ListN.{get_or, set, length}
+use lib.ListN.{get_or, length}
 use lib.Seq.{ext_get_or}
 use borrow.Author.Tests.{lt-ltb, le-ltb}
 use Rattle.std.specs.Prelude.{Some, None}
@@ -23,7 +23,7 @@ use Rattle.amounts.specs.Ranges.{replaced}
 use Rattle.parts.specs.Registers.{point_at}
 use Rattle.amounts.specs.Amounts.{span_days, year_days, days_of_year, entry_at, entry_of, entry_in, capacity, less_by, taken, freed_row, capacity_at, freed_table}
 use Rattle.amounts.proofs.CalendarLaws.{year_facts, in_year, in_no_year}
-use Rattle.amounts.proofs.RangeLaws.{replaced_step, replaced_join, replaced_same, replaced_length, replaced_in, replaced_out}
+use Rattle.amounts.proofs.RangeLaws.{replaced_join, replaced_same, replaced_length, replaced_in, replaced_out}
 
 -- the days of a thermal year within limits
 pub days_of_lem : (y : ℕ) → is_thermal_year y ≡ true → days_of_year y ≡ year_days y
@@ -159,13 +159,6 @@ table_done t f days i ps a b e =
     e ∙ ap (λ (j : ℕ). replaced f 0 j (capacity_at days ps)) n
 
 -- ---- an amount taken
--- a turn of the loop: the place has not been written yet
-pub taken_step : (t f : List ℕ) (at k amount v : ℕ) → t ≡ replaced f at k (less_by f at amount) → v ≡ get_or t (at + k) 0 - amount
-    → set t (at + k) v ≡ replaced f at (k + 1) (less_by f at amount)
-taken_step t f at k amount v e h =
-    replaced_step t f at k (less_by f at amount) v e
-    (h ∙ ap (λ (x : ℕ). x - amount) (ap (λ (l : List ℕ). get_or l (at + k) 0) e ∙ replaced_out f at k (less_by f at amount) 0 (at + k) (λ lo hi. omega arith)))
-
 pub taken_length : (f : List ℕ) (at n amount : ℕ) → length (taken f at n amount) ≡ length f
 unfolding taken
 taken_length f at n amount = replaced_length f at n (less_by f at amount)

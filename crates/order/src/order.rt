@@ -38,8 +38,8 @@ fn accounts_in_order(accounts: &[Account; USERS]) -> bool
     accounts.iter().all(|a| a.is_in_order())
 }
 
-// Each of some amounts is at most the total. A loop that tests each: with `all` it may be left at one and is not vectorised, and
-// question 1, timed at more than twice as much where the ledger is empty, misses its bar of speed.
+// Each of some amounts is at most the total. A loop that is never left: with `all`, which may leave at any amount, it is not vectorised,
+// and question 1, timed at more than twice as much where the ledger is empty, misses its bar of speed.
 #[tactic(auto, using(crate::proofs::LoopLaws::all_tested))]
 fn all_within(row: &[u32], total: u32) -> bool
     ensures { result ≡ all_below (length row.now) (at_most row.now total) }
@@ -51,7 +51,7 @@ fn all_within(row: &[u32], total: u32) -> bool
     ok
 }
 
-// Each free amount is at most what can be free: for the 366th that depends on the year.
+// Each free amount is at most what can be free: for the 366th that depends on the year. A loop that is never left, as in `all_within`.
 #[tactic(auto, using(crate::proofs::LoopLaws::all_tested), unfolding(crate::specs::Order::table_ok))]
 fn table_in_order(points: &[Point; POINTS], days: usize, free: &[u32]) -> bool
     requires { (length free.now ≡ table_length) × (365 ≤ days) }

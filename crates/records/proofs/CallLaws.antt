@@ -1,15 +1,14 @@
 -- The call of a record, by its letter and its kind, and the numbers that its bytes write.
 -- Assumes nothing.
 use Prim.Native.Nat.{ℕ, ◌+◌, ◌*◌, ◌≤◌, ◌<◌}
-use mathlib.Core.Path.{◌≡◌, refl, sym, ◌∙◌}
-use mathlib.Core.Bool.{Bool, true, false}
+use mathlib.Core.Path.{◌≡◌, refl}
+use mathlib.Core.Bool.{true}
 use native.Mathlib.Omega.{arith}
-use lib.Seq.{take_all, length-take-le}
 use lib.Dec.{ltb}
 use mathlib.Core.List.{List, [], ◌∷◌}
 use lib.ListN.{length, take, get_or}
 use Rattle.std.proofs.lemmas.List.{get_or-take}
-use borrow.Author.Tests.{ne_eqb, lt-ltb, le-ltb, ltb-true, ltb-false}
+use borrow.Author.Tests.{ne_eqb, lt-ltb, le-ltb, ltb-true}
 use Rattle.products.specs.declared.products.Product.TheVariants.{Annual, Month, Day}
 use Rattle.std.specs.Prelude.{Some, None}
 use Rattle.records.specs.Records.{little_endian, number_at, letter_of, kind_of, month_of, day_of, opening_in, guarantee_in, request_for, request_in, cession_in, turn_in, call_in, decoded}
@@ -115,14 +114,3 @@ pub ruleset kinds = (kind_annual, kind_month, kind_day, kind_none)
 
 -- a law for each letter of a call
 pub ruleset letters = (by_P, by_G, by_R, by_C, by_Y, by_none)
-
--- a record's own bytes alone hold its call
-pub first_24 : (s : List ℕ) → decoded s ≡ decoded (take 24 s)
-first_24 s = go (ltb (length s) 24) refl
-  where
-    go : (t : Bool) → ltb (length s) 24 ≡ t → decoded s ≡ decoded (take 24 s)
-    go true e = let few : length s < 24 = ltb-true (length s) 24 e in rw (take_all 24 s (omega arith))
-    go false e =
-        let enough : 24 ≤ length s = ltb-false (length s) 24 e in
-        let whole : length (take 24 s) ≡ 24 = length-take-le 24 s enough in
-        sym (cut s enough) ∙ rw (whole)
