@@ -35,9 +35,9 @@ fn batch_answer(v: View, b: Batch, shares: usize, numbers: usize) -> Result<(), 
 }
 
 // Books each share above 0, in the order of the lines, and takes their sum from each day of the year. A share of 0 has no room in any
-// register and is left out. Year and point are asked about before, by questions 1 and 2: a type for one that was asked about would
-// stand for one number, and be opened at once. The register is altered in its place: one that went through a call for each share would
-// be copied as often.
+// register and is left out. Year and point are asked about before, by questions 1 and 2: a type for a number that was asked about
+// would be taken apart at once. The register is altered in its place: one that went through a call for each share would be copied as
+// often.
 #[tactic(auto, using(crate::proofs::LoopLaws::none_booked), unfolding(calendar::specs::Answers::year_answer))]
 fn book_shares(
     mut r: Register,

@@ -15,7 +15,8 @@ pub(crate) fn bounds_of(year: u16) -> Span
     calendar::thermal_year(year).unwrap_or(Span { first: 1, last: 0 })
 }
 
-// The last day of a line: annual lines end with the year, month lines with the month, day lines on that day.
+// The last day of a line: annual lines (1) end with the year, month lines (2) with the month, day lines on that day. The kinds stand as
+// numbers: those that have names are of 8 bits, as calls name them, and a line's has 32.
 #[tactic(auto, using(crate::proofs::EndLaws::next_there, calendar::proofs::DeadlineLaws::before_next))]
 pub(crate) fn line_end(l: Line, last: u16) -> u16
     requires { next_first l.first ≤ last_day }

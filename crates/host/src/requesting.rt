@@ -5,19 +5,19 @@ ghost use Rattle.requests.specs.RequestCapacity.{request_number, request_amount,
 ghost use Rattle.host.specs.Requests.{product_of, request_of};
 
 use applied::Applied;
-use register::Register;
+use register::{ANNUAL, DAY, MONTH, Register};
 use requests::{Product, Request};
 
-// What a kind names, with the month or the gas-day that it has. A kind that there is not has to reach the call, since question 1 is asked
-// before question 2: it is the month 0, which question 2 refuses.
+// What a kind names, with the month or the gas-day that it has. A kind that does not exist must reach the call too, since question 1 is
+// asked before question 2: it is the month 0, which question 2 refuses.
 #[tactic(auto, unfolding(crate::specs::Requests::product_of))]
 fn product_of(kind: u8, month: u8, day: u16) -> Product
     ensures { result ≡ product_of kind month day }
 {
     match kind {
-        1 => Product::Annual,
-        2 => Product::Month(month),
-        3 => Product::Day(day),
+        ANNUAL => Product::Annual,
+        MONTH => Product::Month(month),
+        DAY => Product::Day(day),
         _ => Product::Month(0),
     }
 }

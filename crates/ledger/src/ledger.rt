@@ -51,8 +51,8 @@ pub fn line_at(ledger: &[u32], i: usize) -> Line
     Line::default()
 }
 
-// The fields are written as they are read, by index: copied from an array of five they need a law that five numbers copied are five
-// stores, and are no plainer.
+// The fields are written as they are read, by index: copying an array of five is no plainer, and would need a law that the copy is five
+// stores.
 #[tactic(auto, unfolding(crate::specs::Ledger::with_fields))]
 fn write_fields(ledger: &mut [u32], i: usize, l: Line)
     requires { Holds ledger.old i }

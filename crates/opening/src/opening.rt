@@ -45,8 +45,8 @@ fn open_answer(v: View, o: Opening) -> Result<(), Refusal>
     Ok(())
 }
 
-// The point written, and every gas-day of the year free to its total. Point and year are asked about before, by questions 2 and 1: a type
-// for one that was asked about would stand for one number, and be opened at once.
+// The point written, and every gas-day of the year free to its total. Questions 2 and 1 ask about point and year before: a type for a
+// number that was asked about would be taken apart at once.
 #[tactic(auto, using(amounts::proofs::AmountLaws::days_of_lem))]
 fn with_free_point(mut r: Register, free: &mut [u32], point: u8, p: Point) -> Register
     requires { (point < point_count) × (is_thermal_year r.year ≡ true) }

@@ -24,7 +24,7 @@ const MOST: i32 = MOST_AMOUNT as i32;
 // The entry of a row that a year of 365 days has none for.
 const LAST: usize = ROW - 1;
 
-// Each point is in order.
+// Each point is in order. A function of a line, and the accounts have their own: one for both would need a trait for the test.
 fn points_in_order(points: &[Point; POINTS]) -> bool
     ensures { result ≡ points_ok points.now }
 {
@@ -89,8 +89,8 @@ fn month_marks(year: u16, span: Span) -> [bool; ROW]
     marks
 }
 
-// Other than 0 and within the limit. By the two signed limits: of the size of the amount, by `unsigned_abs`, question 1 was timed at up to
-// 1.45 times the tuned version, past its bar.
+// Other than 0 and within the limit. Tested against two signed limits: with `unsigned_abs` question 1 took 1.45 times the tuned version on
+// lines of mixed kinds, past its bar of speed.
 fn amount_in_order(a: i32) -> bool
     ensures { result ≡ amount_ok a }
 {

@@ -4,6 +4,7 @@ ghost use Rattle.records.specs.Records.{day_of, arrival_of, year_of, rate_of, am
 
 use cessions::Cession;
 use history::{Change, Guarantee, Opening};
+use parts::{ANNUAL, DAY, MONTH};
 use requests::{Product, Request};
 
 // How many bytes a record has.
@@ -85,9 +86,9 @@ fn request_in(s: &[u8; RECORD]) -> Option<Change>
 {
     let kind = s[1];
     match kind {
-        1 => Some(request_for(s, Product::Annual)),
-        2 => Some(request_for(s, Product::Month(s[5]))),
-        3 => Some(request_for(s, Product::Day(day_of(s)))),
+        ANNUAL => Some(request_for(s, Product::Annual)),
+        MONTH => Some(request_for(s, Product::Month(s[5]))),
+        DAY => Some(request_for(s, Product::Day(day_of(s)))),
         _ => None,
     }
 }

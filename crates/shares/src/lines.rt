@@ -48,7 +48,7 @@ fn line_questions(
 
 // The number of each line by these questions. Users that lines have named are marked. Of a line whose user is not within limits any
 // account will do. That the year is a thermal year and the point one of the 32 is asked before, by `can_share`: a type for a year or a
-// point that was asked about would stand for one number, and be opened at once.
+// point that was asked about would be taken apart at once.
 #[tactic(auto, using(crate::proofs::LoopLaws::days_most))]
 pub(crate) fn ask_lines(r: &Register, b: Batch, numbers: &mut [u8])
     requires { (is_thermal_year r.now.year ≡ true) × ((b.point < point_count) ×

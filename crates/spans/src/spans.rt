@@ -30,7 +30,7 @@ pub fn annual_span(year: u16, arrival: u16) -> Option<Span>
     None
 }
 
-// Whether a span lies in a thermal year and has a day left.
+// Whether a span lies in a thermal year and has a day.
 #[tactic(auto, using(crate::proofs::SpanLaws::fits_by))]
 pub fn is_span(year: u16, days: Span) -> bool
     ensures { result ≡ span_in_year year days.first days.last }
