@@ -4,7 +4,7 @@ use Prim.Native.Nat.{ℕ, ◌≤◌, ◌<◌}
 use mathlib.Core.Bool.{Bool, true, false, cond, ◌&&◌}
 use mathlib.Core.Path.{◌≡◌, refl, sym, ap, ◌∙◌}
 use borrow.Author.Tests.{le-leb, lt-leb}
-use Rattle.std.specs.Prelude.{Some, None, option_map}
+use Rattle.std.specs.Prelude.{Option, Some, None, option_map}
 use Rattle.days.specs.declared.dates.Month.{Month}
 use Rattle.days.specs.Days.{last_day, between, is_month, date_of, year_before, month_before}
 use Rattle.calendar.specs.ThermalYears.{is_thermal_month, calendar_year, calendar_month}
@@ -27,11 +27,9 @@ own_answer_lem a n h =
     rw (is_month_lem (date_of a).year (date_of a).month (own_month a h), le-leb a last_day h)
     (compared (timely a) (between 1 18 n) (own_deadline a n))
 
-pub own_some : (a n d : ℕ) → a ≤ last_day → nth_answer (date_of a).year (date_of a).month n ≡ Some d → own_answer a n ≡ Some (timely a d)
-own_some a n d h e = sym (own_answer_lem a n h) ∙ ap (option_map (timely a)) e
-
-pub own_none : (a n : ℕ) → a ≤ last_day → nth_answer (date_of a).year (date_of a).month n ≡ None → own_answer a n ≡ None
-own_none a n h e = sym (own_answer_lem a n h) ∙ ap (option_map (timely a)) e
+-- and so, whether there is one or not
+pub own_by : (a n : ℕ) (o : Option ℕ) → a ≤ last_day → nth_answer (date_of a).year (date_of a).month n ≡ o → own_answer a n ≡ option_map (timely a) o
+own_by a n o h e = sym (own_answer_lem a n h) ∙ ap (option_map (timely a)) e
 
 pub own_outside : (a n : ℕ) → last_day < a → own_answer a n ≡ None
 unfolding own_answer
@@ -43,19 +41,16 @@ unfolding preceding_day preceding_answer
 preceding_answer_lem a y k n h =
     rw (le-leb a last_day h) (compared (timely a) (is_thermal_month y k && between 1 18 n) (preceding_deadline y k n))
 
-pub preceding_some : (a y k n d : ℕ) → a ≤ last_day → preceding_day y k n ≡ Some d → preceding_answer a y k n ≡ Some (timely a d)
-preceding_some a y k n d h e = sym (preceding_answer_lem a y k n h) ∙ ap (option_map (timely a)) e
-
-pub preceding_none : (a y k n : ℕ) → a ≤ last_day → preceding_day y k n ≡ None → preceding_answer a y k n ≡ None
-preceding_none a y k n h e = sym (preceding_answer_lem a y k n h) ∙ ap (option_map (timely a)) e
+pub preceding_by : (a y k n : ℕ) (o : Option ℕ) → a ≤ last_day → preceding_day y k n ≡ o → preceding_answer a y k n ≡ option_map (timely a) o
+preceding_by a y k n o h e = sym (preceding_answer_lem a y k n h) ∙ ap (option_map (timely a)) e
 
 pub preceding_outside : (a y k n : ℕ) → last_day < a → preceding_answer a y k n ≡ None
 unfolding preceding_answer
 preceding_outside a y k n h = rw (lt-leb a last_day h)
 
-pub ruleset own_answers = (own_some, own_none, own_outside)
+pub ruleset own_answers = (own_by, own_outside)
 
-pub ruleset preceding_answers = (preceding_some, preceding_none, preceding_outside)
+pub ruleset preceding_answers = (preceding_by, preceding_outside)
 
 -- the n-th working day of the month before month k, by that month
 pub preceding_day_lem : (y k n x m : ℕ) → is_thermal_month y k ≡ true → year_before (calendar_year y k) (calendar_month k) ≡ x → month_before (calendar_month k) ≡ m → nth_answer x m n ≡ preceding_day y k n

@@ -1,18 +1,15 @@
 -- Laws of grants that a register has room for.
 -- Assumes nothing.
-use mathlib.Core.Path.{◌≡◌, refl, ap, sym}
-use mathlib.Core.Bool.{Bool, true, false, cond}
+use mathlib.Core.Path.{◌≡◌, ap}
+use mathlib.Core.Bool.{Bool, true}
 use Prim.Native.Nat.{ℕ, ◌+◌, ◌≤◌, ◌<◌, min}
 use native.Mathlib.Nat.{mul-le-mul}
 use native.Mathlib.Omega.{arith}
 use borrow.Author.Tests.{ltb-true, leb-true, lt-ltb, le-leb}
 use Rattle.days.specs.Days.{last_day}
 use Rattle.calendar.specs.ThermalYears.{is_thermal_year}
-use Rattle.calendar.proofs.SpanLaws.{unchosen}
 use Rattle.days.proofs.Ranges.{and_left, and_right, Within, within, is_between}
-use Rattle.std.specs.Prelude.{Some, None, unwrap_or}
 use Rattle.std.proofs.lemmas.Bool.{and_from as both}
-use Rattle.std.proofs.lemmas.Option.{cond_some}
 use Rattle.parts.specs.declared.accounts.Account.{Account}
 use Rattle.parts.specs.declared.registers.Register.{Register}
 use Rattle.parts.specs.Limits.{point_count, user_count, line_count, row_length, most_amount}
@@ -23,7 +20,7 @@ use Rattle.parts.proofs.TestLaws.{every_at}
 use Rattle.amounts.proofs.CalendarLaws.{year_facts}
 use Rattle.conferral.specs.declared.bookings.Grant.{Grant}
 use Rattle.spans.specs.Spans.{span_fits, span_in_year}
-use Rattle.conferral.specs.Bookings.{covers, lines_left, days_of, charge_of, committed, field_tests, within_limits, charge_answer, charge_within, is_covered, has_room}
+use Rattle.conferral.specs.Bookings.{covers, lines_left, days_of, charge_of, committed, field_tests, within_limits, charge_within, is_covered, has_room}
 use Rattle.spans.proofs.SpanLaws.{FitFacts, fit_facts, span_fits_lem}
 
 -- 64 bits hold the charge of an amount within limits, on the days of a year and at any rate of 32 bits
@@ -77,31 +74,6 @@ module _ (y : ℕ) (g : Grant) where
 pub charge_within_lem : (r : Register) (g : Grant) → LimitFacts r.year g → charge_within r g ≡ charge_of r g
 unfolding charge_within
 charge_within_lem r g w = rw (within_limits_lem r.year g w)
-
--- what is said of the charge where there is one, and where there is none
-module _ (r : Register) (g : Grant) where
-  pub charge_or_most : unwrap_or (charge_answer r g) most_word ≡ charge_within r g
-  unfolding charge_answer charge_within
-  charge_or_most = go (within_limits r.year g)
-    where
-      go : (t : Bool) → unwrap_or (cond t (Some (charge_of r g)) None) most_word ≡ cond t (charge_of r g) most_word
-      go true = refl
-      go false = refl
-
-  found : (c : ℕ) → charge_answer r g ≡ Some c → (within_limits r.year g ≡ true) × (charge_of r g ≡ c)
-  unfolding charge_answer
-  found c e = cond_some (within_limits r.year g) (charge_of r g) c e
-
-  pub charge_user : (c : ℕ) → charge_answer r g ≡ Some c → g.user < user_count
-  charge_user c e = (limits r.year g (found c e).0).user
-
-  pub charge_covers : (c : ℕ) → charge_answer r g ≡ Some c → covers (account_at r.accounts g.user) c ≡ is_covered r g
-  unfolding is_covered
-  charge_covers c e = rw ((found c e).0, sym (found c e).1)
-
-  pub charge_missing : charge_answer r g ≡ None → is_covered r g ≡ false
-  unfolding charge_answer is_covered
-  charge_missing e = rw (unchosen (within_limits r.year g) (charge_of r g) e)
 
 -- ---- with room
 pub record Room (r : Register) (g : Grant) : Type 0 where

@@ -1,6 +1,6 @@
 -- Document 01, "The changing calls": what a grant does to the register and to the two lists.
 -- Assumes nothing.
-use Rattle.std.specs.Prelude.{ℕ, ◌+◌, Bool, cond, ◌&&◌, List, [], ◌∷◌, leb, ltb, pos, Option, Some, None}
+use Rattle.std.specs.Prelude.{ℕ, ◌+◌, Bool, cond, ◌&&◌, List, [], ◌∷◌, leb, ltb, pos}
 use Rattle.days.specs.Days.{between}
 use Rattle.calendar.specs.declared.thermal_years.Span.{Span}
 use Rattle.parts.specs.declared.points.Point.{Point}
@@ -72,11 +72,7 @@ field_tests g =
 unfoldable pub within_limits : ℕ → Grant → Bool
 within_limits y g = span_in_year y g.days.first g.days.last && every (field_tests g)
 
--- the charge of such a grant; any other has none
-unfoldable pub charge_answer : Register → Grant → Option ℕ
-charge_answer r g = cond (within_limits r.year g) (Some (charge_of r g)) None
-
--- the same, and of any other the largest number that 64 bits hold, which no guarantee covers
+-- the charge of such a grant; of any other the largest number that 64 bits hold, which no guarantee covers
 unfoldable pub charge_within : Register → Grant → ℕ
 charge_within r g = cond (within_limits r.year g) (charge_of r g) most_word
 

@@ -1,7 +1,7 @@
 // Grants: their charge, what a guarantee covers, and how they are booked.
 ghost use Rattle.std.specs.Prelude.{◌≡◌};
 ghost use Rattle.parts.specs.Registers.{state};
-ghost use Rattle.conferral.specs.Bookings.{covers, lines_left, charge_answer, charge_within, is_covered, book_after};
+ghost use Rattle.conferral.specs.Bookings.{covers, lines_left, charge_within, is_covered, book_after};
 ghost use Rattle.conferral.specs.Postings.{room_for, posting, post_after};
 
 use calendar::Span;
@@ -91,23 +91,16 @@ impl Grant {
     }
 }
 
-// The charge of a grant within limits. Any other has none.
-#[tactic(auto, using(crate::proofs::RoomLaws::limits, crate::proofs::RoomLaws::charge_bounds), unfolding(crate::specs::Bookings::charge_answer))]
-fn charge(r: &Register, g: Grant) -> Option<u64>
-    ensures { result ≡ charge_answer r.now g }
-{
-    if !g.is_within_limits(r.year) {
-        return None;
-    }
-    Some(g.charge_at(r.points[g.point as usize]))
-}
-
-// The charge of a grant within limits; of any other the largest number, which no guarantee covers.
-#[tactic(auto, using(crate::proofs::RoomLaws::charge_or_most))]
+// The charge of a grant within limits; of any other the largest number, which no guarantee covers. It asks about the limits for itself,
+// as `is_covered` does: one `Option` under both is no plainer, and takes a definition and five laws.
+#[tactic(auto, using(crate::proofs::RoomLaws::limits, crate::proofs::RoomLaws::charge_bounds), unfolding(crate::specs::Bookings::charge_within))]
 pub fn charge_within(r: &Register, g: Grant) -> u64
     ensures { result ≡ charge_within r.now g }
 {
-    charge(r, g).unwrap_or(register::MOST_WORD)
+    if !g.is_within_limits(r.year) {
+        return register::MOST_WORD;
+    }
+    g.charge_at(r.points[g.point as usize])
 }
 
 // Whether a guarantee covers the commitment and a charge more.
@@ -128,13 +121,14 @@ pub fn lines_left(r: &Register, n: usize) -> bool
 }
 
 // Whether a grant is within limits and its user's guarantee covers its charge.
-#[tactic(auto, using(crate::proofs::RoomLaws::charge_user, crate::proofs::RoomLaws::charge_covers, crate::proofs::RoomLaws::charge_missing))]
+#[tactic(auto, using(crate::proofs::RoomLaws::limits, crate::proofs::RoomLaws::charge_bounds), unfolding(crate::specs::Bookings::is_covered))]
 pub fn is_covered(r: &Register, g: Grant) -> bool
     ensures { result ≡ is_covered r.now g }
 {
-    let Some(charge) = charge(r, g) else {
+    if !g.is_within_limits(r.year) {
         return false;
-    };
+    }
+    let charge = g.charge_at(r.points[g.point as usize]);
     covers_charge(r.accounts[g.user as usize], charge)
 }
 

@@ -24,7 +24,7 @@ const MOST: i32 = MOST_AMOUNT as i32;
 // The entry of a row that a year of 365 days has none for.
 const LAST: usize = ROW - 1;
 
-// Each point is in order. A function of a line, and the accounts have their own: one for both would need a trait for the test.
+// Each point is in order. The accounts have a function of their own: one for both needs a trait for the test, longer than the two.
 fn points_in_order(points: &[Point; POINTS]) -> bool
     ensures { result ≡ points_ok points.now }
 {
