@@ -1,8 +1,9 @@
 // The calendar of the register: thermal years and the deadlines that are working days. The types and functions of gas-days and of
 // working days are passed on, so that a caller names one crate.
 //
-// No function that another crate can name has a `requires`. Input outside the calendar is answered with `None`. The meaning of each
-// answer is in specs/, and proofs/ has the laws that callers cite.
+// No function that another crate can name has a `requires`. Input outside the calendar is answered with `None`; the methods of `Date`
+// and `Month` say what their definitions say of any number. The meaning of each answer is in specs/, and proofs/ has the laws that
+// callers cite.
 #![tactic(auto)]
 
 mod deadlines;

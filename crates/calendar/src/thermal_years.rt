@@ -100,9 +100,11 @@ fn month_span(month: Month) -> Option<Span>
     if !month.is_in_calendar() {
         return None;
     }
+    // The months before it are gone over once: the number of its last date would do so again.
+    let first = month.start();
     Some(Span {
-        first: month.start() as u16,
-        last: month.date(month.length()).number() as u16,
+        first: first as u16,
+        last: (first + (month.length() as u32).saturating_sub(1)) as u16,
     })
 }
 

@@ -145,7 +145,7 @@ pub(crate) fn gather(year: u16, n: usize, ledger: &[u32], h: Holding) -> Gathere
             gathered.firsts[at] = c.span.first;
             gathered.lasts[at] = c.span.last;
             gathered.amounts[at] = c.amount;
-            gathered.count += c.places(h);
+            gathered.count = at + c.places(h);
             gathered.base += c.part_throughout(h);
         }
     }

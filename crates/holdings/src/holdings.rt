@@ -24,11 +24,11 @@ pub struct Holding {
 // The first gas-day of the span on which the lines gathered sum to less than the amount. Document 01 names the form: a loop
 // over the days around a loop over the ledger lines, left by label with the short day. So both are plain loops, and the test stands
 // inside the inner one, so that one `break` leaves both.
-fn short_day(gathered: &Gathered, h: Holding) -> Option<u16>
-    requires few { gathered.now.count ≤ line_count }
-    requires sized { Sized gathered.now }
-    requires small { mag gathered.now.base ≤ 2147483648 * line_count }
-    ensures { result ≡ first_short (gathered_short gathered.now h.amount) (span_days h.first h.last) h.first }
+fn short_day(gathered: Gathered, h: Holding) -> Option<u16>
+    requires few { gathered.count ≤ line_count }
+    requires sized { Sized gathered }
+    requires small { mag gathered.base ≤ 2147483648 * line_count }
+    ensures { result ≡ first_short (gathered_short gathered h.amount) (span_days h.first h.last) h.first }
 {
     let mut day = h.first as u32;
     let short = 'days: loop {
@@ -67,5 +67,5 @@ pub fn first_short_day(year: u16, lines: u16, ledger: &[u32], h: Holding) -> Opt
     ensures { result ≡ held_answer year lines ledger.now h }
 {
     let gathered = gather(year, used_lines(lines), ledger, h);
-    short_day(&gathered, h)
+    short_day(gathered, h)
 }

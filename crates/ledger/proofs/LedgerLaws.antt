@@ -8,7 +8,7 @@ use mathlib.Core.Path.{◌≡◌, refl, ap, ◌∙◌}
 use native.Mathlib.Omega.{arith}
 use lib.ListN.{get_or, set, length, length-set}
 use lib.Seq.{get_or-set_same, get_or-set_other}
-use borrow.Author.Tests.{lt-ltb, le-ltb}
+use borrow.Author.Tests.{ltb-true, lt-ltb, le-ltb}
 use mir.Syntax.{w32}
 use mir.Val.{SFits}
 use mir.Facts.{to_z-of_z}
@@ -16,9 +16,12 @@ use Rattle.ledger.specs.declared.ledger.Line.{Line}
 use Rattle.parts.specs.Limits.{line_length}
 use Rattle.ledger.specs.Ledger.{Holds, signed_of, bits_of, has_line, fields_at, with_fields, no_line, line_at, with_line}
 
--- the test of a line is true where the line lies in the list
+-- the test of a line is true just where the line lies in the list
 pub holds_true : (ls : List ℕ) (i : ℕ) → Holds ls i → has_line ls i ≡ true
 holds_true ls i h = lt-ltb i (length ls / line_length) (omega arith)
+
+pub holds_of : (ls : List ℕ) (i : ℕ) → has_line ls i ≡ true → Holds ls i
+holds_of ls i e = omega (arith, ltb-true i (length ls / line_length) e)
 
 -- there a line is read and written as its five numbers
 pub line_in : (ls : List ℕ) (i : ℕ) → Holds ls i → line_at ls i ≡ fields_at ls i

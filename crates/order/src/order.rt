@@ -14,12 +14,9 @@ use amounts::{capacity_on, row_of};
 use calendar::Span;
 use ledger::{Line, line_at};
 use parts::{
-    ANNUAL, Account, DAY, LEDGER, LINE, LINES, MONTH, MOST_AMOUNT, POINTS, Point, ROW, Register,
-    TABLE, USERS, View,
+    ANNUAL, Account, DAY, LEAST_SIGNED, LEDGER, LINE, LINES, MONTH, MOST_SIGNED, POINTS, Point,
+    ROW, Register, TABLE, USERS, View,
 };
-
-// The largest amount, signed as that of a line is.
-const MOST: i32 = MOST_AMOUNT as i32;
 
 // The entry of a row that a year of 365 days has none for.
 const LAST: usize = ROW - 1;
@@ -94,7 +91,7 @@ fn month_marks(year: u16, span: Span) -> [bool; ROW]
 fn amount_in_order(a: i32) -> bool
     ensures { result ≡ amount_ok a }
 {
-    (-MOST <= a) & (a <= -1) | (1 <= a) & (a <= MOST)
+    (LEAST_SIGNED <= a) & (a <= -1) | (1 <= a) & (a <= MOST_SIGNED)
 }
 
 // What a line says by itself: its user and its point are there, its kind, its first day in the year, its amount. User, point and first

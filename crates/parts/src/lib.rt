@@ -16,8 +16,8 @@ pub use accounts::Account;
 pub use answers::{Answered, Refusal, answer_amount, answer_number};
 pub use charges::charge_of;
 pub use limits::{
-    ANNUAL, DAY, LEDGER, LINE, LINES, MONTH, MOST_AMOUNT, MOST_GUARANTEE, MOST_RATE, MOST_WORD,
-    POINTS, ROW, TABLE, USERS, is_amount, names_point, names_user,
+    ANNUAL, DAY, LEAST_SIGNED, LEDGER, LINE, LINES, MONTH, MOST_AMOUNT, MOST_GUARANTEE, MOST_RATE,
+    MOST_SIGNED, MOST_WORD, POINTS, ROW, TABLE, USERS, is_amount, names_point, names_user,
 };
 pub use points::{Point, can_open};
 pub use registers::{Register, View, blank};

@@ -26,8 +26,12 @@ pub const LINE: usize = 5;
 
 pub const LEDGER: usize = LINES * LINE;
 
-// The largest amount or total.
+// The largest amount or total, and the limits of the signed amount of a ledger line.
 pub const MOST_AMOUNT: u32 = 9_999_999;
+
+pub const LEAST_SIGNED: i32 = -MOST_SIGNED;
+
+pub const MOST_SIGNED: i32 = MOST_AMOUNT as i32;
 
 // The largest rate and the largest guarantee.
 pub const MOST_RATE: u32 = 999_999;

@@ -1,11 +1,12 @@
 -- Laws of place guarantee.
 -- Assumes nothing.
 use mathlib.Core.Path.{◌≡◌, refl, sym, ap, ◌∙◌}
-use mathlib.Core.Bool.{true}
+use mathlib.Core.Bool.{true, false}
 use Prim.Native.Nat.{ℕ, ◌≤◌, ◌<◌}
 use native.Mathlib.Omega.{arith}
 use lib.Dec.{leb, ltb}
-use borrow.Author.Tests.{ltb-true, leb-true}
+use borrow.Author.Tests.{ltb-true, leb-true, lt-ltb, le-leb, lt-leb}
+use Rattle.std.proofs.lemmas.Bool.{and_from as both}
 use Rattle.days.proofs.Ranges.{and_left, and_right}
 use Rattle.parts.specs.declared.registers.Register.{Register}
 use Rattle.parts.specs.Limits.{user_count, most_guarantee}
@@ -42,6 +43,26 @@ module _ (s : State) (u g : ℕ) where
         limit = leb-true _ _ (and_right (ltb u user_count) (leb g most_guarantee) q.1.0);
         covers = leb-true _ _ q.1.1.0;
       }
+
+  -- the number, at each question that is answered no, and where none is
+  pub place_one : in_order s ≡ false → 1 ≡ place_number s u g
+  unfolding place_number
+  place_one h = rw h
+
+  pub place_two : in_order s ≡ true → place_fields u g ≡ false → 2 ≡ place_number s u g
+  unfolding place_number
+  place_two h f = rw (h, f)
+
+  -- a guarantee below a commitment is within limits, since no commitment of a register in order is past them
+  pub place_six : in_order s ≡ true → u < user_count → g < (account_at s.register.accounts u).commitment → 6 ≡ place_number s u g
+  unfolding place_number
+  place_six h l b =
+      let fields : place_fields u g ≡ true = both (ltb u user_count) (leb g most_guarantee) (lt-ltb _ _ l) (le-leb _ _ (omega (arith, b, commitment_limit s u h l))) in
+      rw (h, fields, lt-leb (account_at s.register.accounts u).commitment g b)
+
+  pub place_zero : in_order s ≡ true → place_fields u g ≡ true → (account_at s.register.accounts u).commitment ≤ g → 0 ≡ place_number s u g
+  unfolding place_number
+  place_zero h f c = rw (h, f, le-leb (account_at s.register.accounts u).commitment g c)
 
   -- what is left, as the code leaves it
   pub place_new : place_number s u g ≡ 0 → (r : Register) → r ≡ with_account s.register u (pledged (account_at s.register.accounts u) g)

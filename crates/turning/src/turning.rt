@@ -24,10 +24,15 @@ fn turn_answer(v: View, year: u16) -> Result<(), Refusal>
 }
 
 // The accounts with their commitments at 0.
-fn settled_accounts(accounts: &[Account; register::USERS]) -> [Account; register::USERS]
-    ensures { result ≡ settled_accounts accounts.now }
+fn settle_accounts(accounts: &mut [Account; register::USERS])
+    ensures { accounts.new ≡ settled_accounts accounts.old }
 {
-    accounts.map(|a| Account { commitment: 0, ..a })
+    for a in accounts.iter_mut() {
+        *a = Account {
+            commitment: 0,
+            ..*a
+        };
+    }
 }
 
 // The register of the new year: commitments are 0 and no line is used.
@@ -35,7 +40,7 @@ fn turned_register(mut r: Register, year: u16) -> Register
     ensures { result ≡ turned_register r year }
 {
     r.year = year;
-    r.accounts = settled_accounts(&r.accounts);
+    settle_accounts(&mut r.accounts);
     r.lines = 0;
     r
 }

@@ -1,5 +1,5 @@
-//! The header ylgrandi.h, a C program that makes every call over it, and the lines of Python that
-//! README.md shows.
+//! The header ylgrandi.h, the C programs that make every call over it and measure its stack, and the
+//! lines of Python that README.md shows.
 
 mod programs;
 
@@ -47,6 +47,20 @@ in order: 0; report 0 9040: 1 0
 fn every_call_from_c() {
     let printed = run(&mut Command::new(compile("every_call")));
     assert_eq!(printed, EVERY_CALL.replace("; ", "\n"));
+}
+
+/// The most stack that a call takes, as README.md says it, and which call takes most.
+#[test]
+fn a_call_takes_no_more_stack_than_said() {
+    let printed = run(&mut Command::new(compile("stack")));
+    let bytes = |line: &str| -> (usize, String) {
+        let (call, bytes) = line.split_once(": 0 ").expect("the call is answered 0");
+        (bytes.parse().expect("a number"), call.to_owned())
+    };
+    let calls: Vec<_> = printed.lines().map(bytes).collect();
+    let most = calls.iter().max().expect("there are calls");
+    assert_eq!((calls.len(), most.1.as_str()), (11, "cession"));
+    assert!(most.0 < 48 * 1024, "{printed}");
 }
 
 /// Whether a tool is here. What needs one that is not is left out, with a word about it.

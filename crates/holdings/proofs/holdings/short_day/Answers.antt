@@ -21,7 +21,7 @@ more z k g p q = rw sum_more (ap₂ ◌+ℤ◌ p q ∙ +ℤ_assoc z (signed_sum 
 
 pub lines-init : goal.lines-init
 lines-init c =
-    let base = c.args.gathered.now.base in
+    let base = c.args.gathered.base in
     let e = field_held base line_count c.requires.small (omega arith) in
     record {
       few = omega arith;
@@ -36,7 +36,7 @@ lines-preserved c =
     let small = added_small c.lines.sum-bits (to_z w64 c.lines.sum-bits) c.part_on-sum.result (line_count + c.lines.k) refl c.lines.invariant.small few c.part_on-sum.ensures.small in
     record {
       few = omega arith;
-      sum = e ∙ more c.args.gathered.now.base c.lines.k (gathered_part c.args.gathered.now.firsts c.args.gathered.now.lasts c.args.gathered.now.amounts c.days.day) c.lines.invariant.sum (c.part_on-sum.ensures.value ∙ ap (part_on c.days.day) c.line.ensures);
+      sum = e ∙ more c.args.gathered.base c.lines.k (gathered_part c.args.gathered.firsts c.args.gathered.lasts c.args.gathered.amounts c.days.day) c.lines.invariant.sum (c.part_on-sum.ensures.value ∙ ap (part_on c.days.day) c.line.ensures);
       small = rw e (le_trans small (omega arith));
     }
 
@@ -52,8 +52,8 @@ tested v n k d e all small =
 
 pub returns-then-sum-h : goal.returns-then-sum-h
 returns-then-sum-h c =
-    sym (c.days.invariant ∙ first_hit _ _ _ (omega arith) (sym (tested c.args.gathered.now c.args.h.amount _ c.days.day c.lines.invariant.sum (omega arith) (omega arith)) ∙ c.if-sum-h.true))
+    sym (c.days.invariant ∙ first_hit _ _ _ (omega arith) (sym (tested c.args.gathered c.args.h.amount _ c.days.day c.lines.invariant.sum (omega arith) (omega arith)) ∙ c.if-sum-h.true))
 
 pub days-preserved : goal.days-preserved
 days-preserved c =
-    c.days.invariant ∙ first_miss _ _ _ (omega arith) (sym (tested c.args.gathered.now c.args.h.amount _ c.days.day c.lines.invariant.sum (omega arith) (omega arith)) ∙ c.if-sum-h.false)
+    c.days.invariant ∙ first_miss _ _ _ (omega arith) (sym (tested c.args.gathered c.args.h.amount _ c.days.day c.lines.invariant.sum (omega arith) (omega arith)) ∙ c.if-sum-h.false)
