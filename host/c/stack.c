@@ -1,8 +1,9 @@
 /*
  * How much stack each call of ylgrandi.h takes. A call is made on a stack of its
- * own, which is painted first. Counted are the bytes that lost their paint below
- * the place at which the caller stood. A line for each call: its number, and the
- * bytes. host/rust/tests/c_programs.rs holds them to what README.md says.
+ * own, which is painted first. Counted are the bytes from the lowest that lost its
+ * paint up to the place at which the caller stood. A line for each call: its
+ * number, and the bytes. host/rust/tests/c_programs.rs holds them to what
+ * README.md says.
  */
 #define _XOPEN_SOURCE 700
 #include <stdio.h>

@@ -140,7 +140,8 @@ pub(crate) fn gather(year: u16, n: usize, ledger: &[u32], h: Holding) -> Gathere
         let l = register::line_at(ledger, i);
         if is_gathered(l, h, bounds) {
             let c = gathered_line(l, bounds.last);
-            // Written in any case, and counted where it takes the place: the loop has no second branch.
+            // Written in any case, and counted where it takes the place: the loop has no second branch. What is counted from is `at`: by
+            // `+=` the count would be read back from memory for each line.
             let at = gathered.count;
             gathered.firsts[at] = c.span.first;
             gathered.lasts[at] = c.span.last;

@@ -23,7 +23,8 @@ pub struct Holding {
 
 // The first gas-day of the span on which the lines gathered sum to less than the amount. Document 01 names the form: a loop
 // over the days around a loop over the ledger lines, left by label with the short day. So both are plain loops, and the test stands
-// inside the inner one, so that one `break` leaves both.
+// inside the inner one, so that one `break` leaves both. What is gathered is passed on by value: lent, it would stand on the stack once
+// more, 16 KiB, and a cession would take more of it than README says.
 fn short_day(gathered: Gathered, h: Holding) -> Option<u16>
     requires few { gathered.count ≤ line_count }
     requires sized { Sized gathered }

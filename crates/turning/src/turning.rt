@@ -23,15 +23,12 @@ fn turn_answer(v: View, year: u16) -> Result<(), Refusal>
     Ok(())
 }
 
-// The accounts with their commitments at 0.
+// The commitments of all accounts become 0, in place: as a new list they would be copied to the stack several times.
 fn settle_accounts(accounts: &mut [Account; register::USERS])
     ensures { accounts.new ≡ settled_accounts accounts.old }
 {
     for a in accounts.iter_mut() {
-        *a = Account {
-            commitment: 0,
-            ..*a
-        };
+        a.commitment = 0;
     }
 }
 
