@@ -40,6 +40,10 @@ next_is a =
     let v = date_valid a in
     month_after_lem (date_of a).year (date_of a).month v.year_from v.month.from v.month.to
 
+-- so it is counted from the day by the days that are left of the month
+pub next_counted : (a left : ℕ) → left ≡ month_length (date_of a).year (date_of a).month - (date_of a).day → a + left + 1 ≡ next_first a
+next_counted a left e = let v = date_valid a in omega (arith, e, next_is a, day_date a, v.day.from, v.day.to)
+
 -- an arrival is before the first of its next month, by 31 days at most
 pub before_next : (a : ℕ) → a < next_first a
 before_next a = let v = date_valid a in omega (arith, next_is a, day_date a, v.day.from, v.day.to)

@@ -19,13 +19,12 @@ pub month_least : (y m : ℕ) → 28 ≤ month_length y m
 unfolding month_length
 month_least y m = search (le_cond, lit≤, tt) depth 12
 
--- the days of the months before month m, and of month m with them
-pub days_with : (y m sum days : ℕ) → 1 ≤ m → sum ≡ days_before y (m - 1) → days ≡ month_length y m → sum + days ≡ days_before y (m + 1 - 1)
+-- the days of the first k months and those of the month after them are the days of the first k + 1
+pub days_with : (y k sum days : ℕ) → sum ≡ days_before y k → days ≡ month_length y (k + 1) → sum + days ≡ days_before y (k + 1)
 unfolding days_before
-days_with y m sum days h e f =
-    let p : suc (m - 1) ≡ m = omega arith in
-    let q : m + 1 - 1 ≡ suc (m - 1) = omega arith in
-    rw (q, e, f, p) refl
+days_with y k sum days e f =
+    let q : k + 1 ≡ suc k = omega arith in
+    rw (e, f, q) refl
 
 -- in a year, the next month starts after the month's days
 pub month_next : (y m : ℕ) → 1 ≤ m → month_start y (m + 1) ≡ month_start y m + month_length y m

