@@ -89,7 +89,7 @@ fn day_found(date: Date) -> Option<Day> {
 }
 
 // The days 1 to 31 of a month, each asked alone and once. What is counted goes over them: asked anew for each count, the program takes
-// half as long again.
+// 1.4 times as long.
 fn days_of(month: Month) -> [Option<Day>; 31] {
     let mut days = [None; 31];
     for (place, day) in days.iter_mut().zip(1..32) {
